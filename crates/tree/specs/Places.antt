@@ -1,0 +1,44 @@
+-- Where the cell of a label stands. 01: "Cells stand by level, inside a level by label".
+use Prim.Native.Nat.{ℕ, zero, suc, _+_, _-_, _*_, _≤_, _<_}
+use mathlib.Core.Path.{_≡_}
+use mathlib.Core.Bool.{Bool, true, false, not}
+use mathlib.Core.List.{List, [], _∷_}
+use mathlib.Core.Logic.{_⊎_}
+use lib.ListN.{length}
+use Rattle.plan.specs.Search.{count}
+use Rattle.tree.specs.Labels.{Label, occurs}
+
+-- 01: "Level k has (n − 1)(n − 2)…(n − k + 1) places".
+unfoldable pub levelSize : ℕ → ℕ → ℕ
+levelSize n zero = 0
+levelSize n (suc zero) = 1
+levelSize n (suc (suc k)) = levelSize n (suc k) * (n - suc k)
+
+-- The places of the levels before level k.
+unfoldable pub levelStart : ℕ → ℕ → ℕ
+levelStart n zero = 0
+levelStart n (suc k) = levelStart n k + levelSize n k
+
+-- The cells of a board.
+unfoldable pub cellCount : ℕ → ℕ
+cellCount n = levelStart n (suc n)
+
+-- The number of q, from 0, among the children of α: the boards below q that are not on α.
+unfoldable pub ordinal : ℕ → Label → ℕ
+ordinal q α = count (λ i. not (occurs i α)) q
+
+-- The number of a label, from 0, in its level.
+unfoldable pub rank : ℕ → Label → ℕ
+rank n [] = 0
+rank n (q ∷ []) = 0
+rank n (q ∷ (r ∷ α)) = rank n (r ∷ α) * (n - length (r ∷ α)) + ordinal q (r ∷ α)
+
+unfoldable pub place : ℕ → Label → ℕ
+place n α = levelStart n (length α) + rank n α
+
+-- Labels of one level, boards compared as numbers from the left: the first difference decides.
+-- The parents are compared first, since they stand to the left of the last board.
+abbrev pub Before : Label → Label → Type 0
+Before [] β = ⊥
+Before (q ∷ α) [] = ⊥
+Before (q ∷ α) (r ∷ β) = Before α β ⊎ ((α ≡ β) × (q < r))

@@ -1,0 +1,1 @@
+// Labels, levels and places of the tree.
