@@ -2,3 +2,7 @@ pub mod Tests
 pub mod Search
 pub mod Count
 pub mod Member
+pub mod Tolerated
+pub mod Cover
+pub mod Outcomes
+pub mod ThreeCover

@@ -64,6 +64,10 @@ module _ (f : ℕ → Bool) where
       (λ s. clash t (first-false left i k a (ltb-true k (first f left i) s)))
       (λ s. ltb-false k (first f left i) s)
 
+  pub any-at : (k r : ℕ) → r ≡ first f k 0 → any f k ≡ ltb r k
+  unfolding any
+  any-at k r e = ap (λ x. ltb x k) (sym e)
+
   pub any-true : (k : ℕ) → any f k ≡ true → (i : ℕ) × (i < k) × (f i ≡ true)
   unfolding any
   any-true k h =
@@ -76,6 +80,9 @@ module _ (f : ℕ → Bool) where
 
   pub any-of : (k i : ℕ) → i < k → f i ≡ true → any f k ≡ true
   any-of k i l t = is-true (any f k) (λ e. clash t (any-false k e i l))
+
+pub seek-start : (f : ℕ → Bool) (n : ℕ) → first f (n - 0) 0 ≡ first f n 0
+seek-start f n = ap (λ m. first f m 0) (let z : n - 0 ≡ n = omega arith in z)
 
 -- A loop that counts i up to n and leaves at the first i that passes: what it is still to find is what it set out to find.
 module _ (f : ℕ → Bool) (n i : ℕ) where

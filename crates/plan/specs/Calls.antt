@@ -8,15 +8,17 @@ use Rattle.plan.specs.Structure.{strays, covered, places}
 use Rattle.plan.specs.Outcome.{Outcome, taken, refused, refusedAt}
 use Rattle.plan.specs.declared.plan.Plan.{Plan}
 
+-- 01, 'Admitting sets', 5: three sets cover all boards, with the places of the first such triple.
+unfoldable pub covering : ℕ → List ℕ → Outcome
+covering n sets = let triple = refusedAt (places n sets) in cond (covered n sets) triple (taken [])
+
 -- 01, 'Admitting sets': the first of 1 to 5 that applies to `count` sets.
 unfoldable pub admitting : ℕ → ℕ → List ℕ → Outcome
 admitting n count sets =
-    let triple = refusedAt (places n sets) in
     cond (eqb n 0 || ltb 7 n) (refused 1)
     (cond (eqb count 0) (refused 2)
     (cond (ltb 32 count) (refused 3)
-    (cond (strays n sets) (refused 4)
-    (cond (covered n sets) triple (taken [])))))
+    (cond (strays n sets) (refused 4) (covering n sets))))
 
 -- What is judged first, if it refuses; else the next.
 unfoldable pub andThen : Outcome → Outcome → Outcome

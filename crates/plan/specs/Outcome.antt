@@ -11,6 +11,22 @@ use Rattle.plan.specs.declared.refusal.Refusal.the-variants.{
   Dealer,
   Span,
   Depth,
+  BoardNumber,
+  BoardIsDealer,
+  ShortCells,
+  BadRecord,
+  Decided,
+  NotDue,
+  AlreadyTaken,
+  NothingToSend,
+  ShortOutput,
+  BadValue,
+  Undecided,
+  LongSheet,
+  BadText,
+  BadHead,
+  BadFaulty,
+  BadFrame,
 }
 use Rattle.plan.specs.declared.refusal.Verdict.{Verdict}
 use Rattle.plan.specs.declared.refusal.Verdict.the-variants.{Accepted, Refused}
@@ -41,6 +57,22 @@ refusal (Covered i j k) = refusedAt (i ∷ j ∷ k ∷ [])
 refusal Dealer = refused 6
 refusal Span = refused 7
 refusal Depth = refused 8
+refusal BoardNumber = refused 9
+refusal BoardIsDealer = refused 10
+refusal ShortCells = refused 11
+refusal BadRecord = refused 12
+refusal Decided = refused 13
+refusal NotDue = refused 14
+refusal AlreadyTaken = refused 15
+refusal NothingToSend = refused 16
+refusal ShortOutput = refused 17
+refusal BadValue = refused 18
+refusal Undecided = refused 19
+refusal LongSheet = refused 20
+refusal BadText = refused 21
+refusal BadHead = refused 22
+refusal BadFaulty = refused 23
+refusal BadFrame = refused 24
 
 -- The answer to admitting sets and to planning.
 unfoldable pub verdict : Verdict → Outcome

@@ -6,6 +6,8 @@ use mathlib.Core.Option.{Option, some, none}
 use lib.Dec.{eqb, ltb}
 use lib.ListN.{length, getD}
 use Rattle.plan.specs.Search.{first, any}
+use Rattle.plan.specs.declared.structure.Place.{Place}
+use Rattle.plan.specs.declared.structure.Place.the-variants.{At, Nowhere}
 use Rattle.plan.specs.Sets.{union, within, boards}
 
 -- The place, from 0, of the first listed set that holds a; none if no listed set does.
@@ -15,6 +17,11 @@ holder sets a =
     let i = first (λ i. within a (getD sets i 0)) (length sets) 0 in
     let listed = cond (ltb i (length sets)) (some i) none in
     cond (eqb a 0) (some 0) listed
+
+-- What the code's `Place` says.
+unfoldable pub place : Place → Option ℕ
+place (At i) = some i
+place Nowhere = none
 
 unfoldable pub isSome : Option ℕ → Bool
 isSome none = false

@@ -16,6 +16,38 @@ pub enum Refusal {
     Span,
     // The depth is 1, 2, 3 or above 7.
     Depth,
+    // The board's number is not below n.
+    BoardNumber,
+    // The board is the dealer.
+    BoardIsDealer,
+    // Too few cells.
+    ShortCells,
+    // A record that no call made.
+    BadRecord,
+    // The board has decided already.
+    Decided,
+    // No frame is due from this sender in this round.
+    NotDue,
+    // That sender's frame was taken this round.
+    AlreadyTaken,
+    // No frame is due from this board, or no other board keeps cells.
+    NothingToSend,
+    // The output is too short.
+    ShortOutput,
+    // The value is not below the span.
+    BadValue,
+    // The board has not decided.
+    Undecided,
+    // The sheet has above 65,536 bytes.
+    LongSheet,
+    // Another character, an odd digit count, or no final newline.
+    BadText,
+    // A head of the wrong length, or an empty sheet.
+    BadHead,
+    // The faulty boards are not a tolerated set.
+    BadFaulty,
+    // A frame line that no frame is due for, or out of order.
+    BadFrame,
 }
 
 // The answer to admitting sets and to planning.

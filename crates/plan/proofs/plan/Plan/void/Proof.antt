@@ -1,0 +1,14 @@
+use mathlib.Core.Path.{refl}
+use Rattle.plan.specs.Calls.{voidPlan}
+use Rattle.plan.proofs.plan.Plan.void.Statement.{statement}
+use Rattle.plan.proofs.plan.Plan.void.Tie as tie
+use Rattle.plan.proofs.plan.Plan.void.Reads as reads
+use Rattle.plan.proofs.plan.Plan.void.Lts as lts
+
+-- src/plan.rt:64:5
+returns : tie.Need-returns
+unfolding voidPlan
+returns c = refl
+
+pub void-spec : {M : Type 1} → statement M
+void-spec = tie.close (tie.spec returns)

@@ -1,0 +1,33 @@
+use mathlib.Core.Path.{sym, ap, _∙_}
+use Rattle.plan.specs.Structure.{place, isSome, tolerated}
+use borrow.Author.Needs.{needs}
+use Rattle.plan.proofs.structure.is_tolerated.Statement.{statement}
+use Rattle.plan.proofs.structure.is_tolerated.Tie as tie
+use Rattle.plan.proofs.structure.is_tolerated.Reads as reads
+use Rattle.plan.proofs.structure.is_tolerated.Lts as lts
+use Rattle.plan.proofs.structure.holder_of.Reads as holder-of-reads
+
+-- src/structure.rt:37:11
+holder-of-requires : tie.Need-holder-of-requires
+holder-of-requires c κs = search needs
+
+-- src/structure.rt:38:25
+enum-told : tie.Need-enum-told
+enum-told c = search needs
+
+-- src/structure.rt:39:27
+enum-told-2 : tie.Need-enum-told-2
+enum-told-2 c = search needs
+
+-- src/structure.rt:34:1
+returns : tie.Need-returns
+unfolding place isSome tolerated
+returns c = ap (λ r. isSome (place r)) (sym (c .enum-told .given .1)) ∙ ap isSome (c .before .before .holder-of .ensures)
+
+-- src/structure.rt:34:1
+returns-2 : tie.Need-returns-2
+unfolding place isSome tolerated
+returns-2 c = ap (λ r. isSome (place r)) (sym (c .enum-told2 .given .1)) ∙ ap isSome (c .before .before .holder-of .ensures)
+
+pub is-tolerated-spec : {M : Type 1} → statement M
+is-tolerated-spec = tie.close (tie.spec holder-of-requires enum-told enum-told-2 returns returns-2)

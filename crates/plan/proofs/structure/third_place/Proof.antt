@@ -1,0 +1,105 @@
+use Prim.Native.Nat.{ℕ, _≤_, _<_, _-_, _+_, min}
+use mathlib.Core.Path.{_≡_, refl, sym, ap, _∙_}
+use mathlib.Core.Bool.{Bool}
+use mathlib.Core.List.{List}
+use native.Mathlib.Omega.{arith}
+use borrow.Author.Needs.{needs}
+use lib.Bits.{bitOr}
+use lib.ListN.{length, getD}
+use Rattle.plan.specs.Search.{first}
+use Rattle.plan.specs.Sets.{within, boards, union}
+use Rattle.plan.specs.Structure.{covers, thirdPlace}
+use Rattle.plan.proofs.Search.{seek-hit, seek-miss, seek-none}
+use Rattle.plan.proofs.structure.third_place.Statement.{statement}
+use Rattle.plan.proofs.structure.third_place.Tie as tie
+use Rattle.plan.proofs.structure.third_place.Reads as reads
+use Rattle.plan.proofs.structure.third_place.Lts as lts
+use Rattle.plan.proofs.sets.all_boards.Reads as all-boards-reads
+use Rattle.plan.proofs.sets.subset.Reads as subset-reads
+
+-- The test that the loop makes.
+tested : (n : ℕ) (sets : List ℕ) (i j k all : ℕ) → n ≤ 8 → all ≡ boards (min n 8)
+    → within all (bitOr (bitOr (getD sets i 0) (getD sets j 0)) (getD sets k 0)) ≡ covers n sets i j k
+unfolding covers union
+tested n sets i j k all l e =
+    ap (λ x. within x (bitOr (bitOr (getD sets i 0) (getD sets j 0)) (getD sets k 0))) (e ∙ ap boards (let z : min n 8 ≡ n = omega arith in z))
+
+abbrev Inv-loop : tie.InvT-loop
+Inv-loop n sets i j all pair k₀ k = (k ≤ length sets) × (first (covers n sets i j) (length sets - k) k ≡ thirdPlace n sets i j)
+
+abbrev μ-loop : tie.MeasureT-loop
+μ-loop n sets i j all pair k₀ k = length sets - k
+
+-- src/structure.rt:64:9
+all-boards-requires : tie.Need-all-boards-requires Inv-loop μ-loop
+all-boards-requires c κs = search needs
+
+-- src/structure.rt:65:16
+shared-slice-read-pair : tie.Need-shared-slice-read-pair Inv-loop μ-loop
+shared-slice-read-pair c = omega arith
+
+-- src/structure.rt:65:26
+shared-slice-read-pair-2 : tie.Need-shared-slice-read-pair-2 Inv-loop μ-loop
+shared-slice-read-pair-2 c = omega arith
+
+-- src/structure.rt:67:5
+loop-holds : tie.Need-loop-holds Inv-loop μ-loop
+unfolding thirdPlace
+loop-holds c = (omega arith, refl)
+
+-- src/structure.rt:68:31
+shared-slice-read-subset : tie.Need-shared-slice-read-subset Inv-loop μ-loop
+shared-slice-read-subset c = omega arith
+
+-- src/structure.rt:68:12
+subset-requires : tie.Need-subset-requires Inv-loop μ-loop
+subset-requires c κs = search needs
+
+-- src/structure.rt:69:13
+returns : tie.Need-returns Inv-loop μ-loop
+returns c =
+    let a = c .before .before .before .before .before .before .before .before .before .args in
+    let l = c .before .before .before .before .loop in
+    let test = tested a.n (a.sets .now) a.i a.j l.k (c .before .before .before .before .before .before .before .all-boards .result) (omega arith) (c .before .before .before .before .before .before .before .all-boards .ensures) in
+    seek-hit (covers a.n (a.sets .now) a.i a.j) (length (a.sets .now)) l.k _ (l .inv .1) (omega arith) (sym test ∙ sym (c .before .subset .ensures) ∙ c .if1 .taken)
+
+-- src/structure.rt:71:9
+add-k : tie.Need-add-k Inv-loop μ-loop
+add-k c = omega arith
+
+-- src/structure.rt:67:5
+loop-less : tie.Need-loop-less Inv-loop μ-loop
+loop-less c = omega arith
+
+-- src/structure.rt:67:5
+loop-again : tie.Need-loop-again Inv-loop μ-loop
+loop-again c =
+    let a = c .before .before .before .before .before .before .before .before .before .args in
+    let l = c .before .before .before .before .loop in
+    let test = tested a.n (a.sets .now) a.i a.j l.k (c .before .before .before .before .before .before .before .all-boards .result) (omega arith) (c .before .before .before .before .before .before .before .all-boards .ensures) in
+    (omega arith, seek-miss (covers a.n (a.sets .now) a.i a.j) (length (a.sets .now)) l.k _ (l .inv .1) (omega arith) (sym test ∙ sym (c .before .subset .ensures) ∙ c .if1 .left))
+
+-- src/structure.rt:60:1
+returns-2 : tie.Need-returns-2 Inv-loop μ-loop
+returns-2 c =
+    let a = c .before .before .before .before .before .before .args in
+    let l = c .before .loop in
+    seek-none (covers a.n (a.sets .now) a.i a.j) (length (a.sets .now)) l.k _ (l .inv .1) (omega arith)
+
+pub third-place-spec : {M : Type 1} → statement M
+third-place-spec =
+    tie.close
+    (tie.spec
+    Inv-loop
+    μ-loop
+    all-boards-requires
+    shared-slice-read-pair
+    shared-slice-read-pair-2
+    loop-holds
+    shared-slice-read-subset
+    subset-requires
+    returns
+    add-k
+    loop-less
+    loop-again
+    returns-2)
