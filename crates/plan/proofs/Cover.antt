@@ -1,22 +1,21 @@
 -- The first covering triple: what the three searches find.
 -- Assumes nothing.
-use Prim.Native.Nat.{ℕ, zero, suc, _+_, _-_, _≤_, _<_, _^_}
-use mathlib.Core.Path.{_≡_, refl, sym, _∙_, ap, subst}
-use mathlib.Core.Logic.{_≢_, _⊎_, inl, inr, ⊎-elim}
-use mathlib.Core.Bool.{Bool, true, false, _||_, or-assoc, or-comm}
+use Prim.Native.Nat.{ℕ, _-_, _≤_, _<_}
+use mathlib.Core.Path.{_≡_, sym, _∙_, ap, subst}
+use mathlib.Core.Logic.{_≢_, _⊎_, inl, inr}
+use mathlib.Core.Bool.{Bool, true, _||_, or-assoc}
 use mathlib.Core.List.{List}
 use native.Mathlib.Omega.{arith}
 use lib.Dec.{eqb, ltb}
 use lib.ListN.{length, getD}
 use lib.Pow.{ones-lt}
-use borrow.Author.Tests.{eqb-true, eqb-false, lt-ltb, le-ltb, ltb-true, ltb-false}
-use Rattle.plan.specs.Search.{first}
-use Rattle.plan.specs.Sets.{member, union, within, boards}
-use Rattle.plan.specs.Structure.{covers, thirdPlace, secondPlace, firstPlace}
+use borrow.Author.Tests.{eqb-true, eqb-false, lt-ltb, ltb-true}
+use Rattle.sets.specs.Sets.{member, union, boards}
+use Rattle.plan.specs.Cover.{covers, thirdPlace, secondPlace, firstPlace}
 use Rattle.plan.specs.Claims.{Cover, NoLater, FirstTriple}
-use Rattle.plan.proofs.Tests.{cases}
-use Rattle.plan.proofs.Search.{first-true, first-least, first-ge}
-use Rattle.plan.proofs.Member.{within-member, member-within, member-union, member-boards}
+use Rattle.sets.proofs.Tests.{cases}
+use Rattle.sets.proofs.Search.{first-true, first-least, first-ge}
+use Rattle.sets.proofs.Member.{within-member, member-within, member-union, member-boards}
 
 module _ (n : ℕ) (sets : List ℕ) where
   -- The sets at three places cover all boards.

@@ -1,8 +1,7 @@
-pub mod Tests
-pub mod Search
-pub mod Count
-pub mod Member
-pub mod Tolerated
 pub mod Cover
-pub mod Outcomes
 pub mod ThreeCover
+pub mod Outcomes
+pub mod Levels
+pub mod HasRound
+pub mod Height
+pub mod Steps

@@ -1,45 +1,22 @@
 -- What outcomes say: a refusal has a number, what is judged first goes first, and what an accepted plan meets.
 -- Assumes nothing.
-use Prim.Native.Nat.{ℕ, zero, suc, _≤_, _<_}
+use Prim.Native.Nat.{ℕ, _-_, _≤_, _<_}
 use mathlib.Core.Path.{_≡_, refl, sym, _∙_, ap}
 use mathlib.Core.Logic.{_≢_}
 use mathlib.Core.Bool.{Bool, true, false, not, _||_, cond}
-use mathlib.Core.List.{List, []}
+use mathlib.Core.List.{List}
 use native.Mathlib.Omega.{arith}
 use lib.Dec.{eqb, leb, ltb}
-use lib.ListN.{length}
+use lib.ListN.{length, replicate}
 use borrow.Author.Tests.{eq-eqb, ne-eqb, eqb-true, eqb-false, ltb-false, leb-false}
 use Rattle.plan.specs.declared.refusal.Refusal.{Refusal}
-use Rattle.plan.specs.declared.refusal.Refusal.the-variants.{
-  Boards,
-  NoSets,
-  TooManySets,
-  UnknownBoard,
-  Covered,
-  Dealer,
-  Span,
-  Depth,
-  BoardNumber,
-  BoardIsDealer,
-  ShortCells,
-  BadRecord,
-  Decided,
-  NotDue,
-  AlreadyTaken,
-  NothingToSend,
-  ShortOutput,
-  BadValue,
-  Undecided,
-  LongSheet,
-  BadText,
-  BadHead,
-  BadFaulty,
-  BadFrame,
-}
-use Rattle.plan.specs.Structure.{strays, covered, places}
-use Rattle.plan.specs.Outcome.{Outcome, taken, refused, refusedAt, refusal}
-use Rattle.plan.specs.Calls.{covering, admitting, andThen, isDepth, settings, planning, planned, planOn, voidPlan}
-use Rattle.plan.proofs.Tests.{cases, or-l, or-r, not-f}
+use Rattle.plan.specs.declared.refusal.Refusal.the-variants.{Boards, NoSets, TooManySets, UnknownBoard, Covered, Dealer, Span, Depth, BoardNumber, BoardIsDealer, ShortCells, BadRecord, Decided, NotDue, AlreadyTaken, NothingToSend, ShortOutput, BadValue, Undecided, LongSheet, BadText, BadHead, BadFaulty, BadFrame}
+use Rattle.plan.specs.Cover.{strays, covered, places}
+use Rattle.plan.specs.Outcome.{Outcome, refused, refusedAt, refusal}
+use Rattle.plan.specs.Calls.{covering, admitting, andThen, isDepth, settings, planning, planned, planOn, voidPlan, judged}
+use Rattle.plan.specs.Schedule.{listed}
+use lib.Seq.{take-append-seam}
+use Rattle.sets.proofs.Tests.{cases, or-l, or-r, not-f}
 
 pub refusal-number : (why : Refusal) → refusal why .number ≢ 0
 unfolding refusal
@@ -147,3 +124,16 @@ module _ (n : ℕ) (sets : List ℕ) (dealer span depth : ℕ) where
   unfolding planned
   planned-refused e =
       ap (λ b. cond b (planOn n sets dealer span depth) voidPlan) (ne-eqb (planning n (length sets) sets dealer span depth .number) 0 e)
+
+  -- What planning accepted is judged so again.
+  pub planned-judged : planning n (length sets) sets dealer span depth .number ≡ 0
+      → judged (planned n sets dealer span depth) ≡ planning n (length sets) sets dealer span depth
+  unfolding judged listed planOn
+  planned-judged e =
+      ap judged (planned-taken e)
+      ∙ ap (λ x. planning n (length sets) x dealer span depth) (take-append-seam sets (replicate (32 - length sets) 0))
+
+-- No call accepts the plan beside a refusal.
+pub void-judged : judged voidPlan ≡ refused 1
+unfolding judged voidPlan planning andThen admitting
+void-judged = refl

@@ -1,25 +1,25 @@
 -- Demand 2, second sentence: a list within the limits is refused exactly if three of its sets, repeats allowed, cover all boards.
 -- Assumes nothing.
 use Prim.Native.Nat.{ℕ, zero, suc, _≤_, _<_, _^_}
-use mathlib.Core.Path.{_≡_, refl, sym, _∙_, ap, subst}
-use mathlib.Core.Logic.{_≢_, _⊎_, inl, inr, ⊎-elim, _↔_}
-use mathlib.Core.Bool.{Bool, true, false, not, _||_, cond}
-use mathlib.Core.List.{List, [], _∷_}
+use mathlib.Core.Path.{_≡_, sym, _∙_, ap}
+use mathlib.Core.Logic.{inl, inr, ⊎-elim}
+use mathlib.Core.Bool.{true, false, not, _||_}
+use mathlib.Core.List.{List}
 use native.Mathlib.Omega.{arith}
 use native.Mathlib.Nat.{pow-suc}
-use lib.Dec.{eqb, ltb, leb}
+use lib.Dec.{leb}
 use lib.ListN.{length, getD}
-use borrow.Author.Tests.{lt-ltb, le-ltb, ne-eqb, ltb-true, ltb-false, leb-true, leb-false}
-use Rattle.plan.specs.Search.{any}
-use Rattle.plan.specs.Sets.{member, within, boards}
-use Rattle.plan.specs.Structure.{tolerated, strays, covered, places, thirdPlace, secondPlace, firstPlace}
-use Rattle.plan.specs.Outcome.{Outcome, taken, refusedAt}
+use borrow.Author.Tests.{lt-ltb, le-ltb, ne-eqb, ltb-true, leb-true, leb-false}
+use Rattle.sets.specs.Sets.{member, within, boards}
+use Rattle.sets.specs.Structure.{tolerated}
+use Rattle.plan.specs.Cover.{strays, covered, places, thirdPlace, secondPlace, firstPlace}
+use Rattle.plan.specs.Outcome.{refusedAt}
 use Rattle.plan.specs.Calls.{admitting, covering}
-use Rattle.plan.specs.Claims.{Cover, Within, ListedCover, ToleratedCover, FirstTriple, RefusedByFive, ThreeCover}
-use Rattle.plan.proofs.Tests.{cases, clash, is-false, or-true, or-left, or-right}
-use Rattle.plan.proofs.Search.{any-true}
-use Rattle.plan.proofs.Member.{within-member, member-within, member-boards, member-empty, within-refl}
-use Rattle.plan.proofs.Tolerated.{listed-tolerated, tolerated-listed}
+use Rattle.plan.specs.Claims.{Within, ListedCover, ToleratedCover, ThreeCover}
+use Rattle.sets.proofs.Tests.{cases, clash, is-false, or-true, or-left, or-right}
+use Rattle.sets.proofs.Search.{any-true}
+use Rattle.sets.proofs.Member.{within-member, member-within, member-boards, member-empty, within-refl}
+use Rattle.sets.proofs.Tolerated.{listed-tolerated, tolerated-listed}
 use Rattle.plan.proofs.Cover.{CoverAt, found-of, first-triple}
 
 below-pow : (n : ℕ) → n < 2 ^ n

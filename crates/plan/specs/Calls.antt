@@ -1,11 +1,12 @@
 -- The two public calls: admitting a list of sets, and planning.
 use Prim.Native.Nat.{ℕ, _-_}
-use mathlib.Core.Bool.{Bool, true, false, not, _&&_, _||_, cond}
+use mathlib.Core.Bool.{Bool, not, _&&_, _||_, cond}
 use mathlib.Core.List.{List, [], _++_}
 use lib.Dec.{eqb, leb, ltb}
 use lib.ListN.{length, replicate}
-use Rattle.plan.specs.Structure.{strays, covered, places}
+use Rattle.plan.specs.Cover.{strays, covered, places}
 use Rattle.plan.specs.Outcome.{Outcome, taken, refused, refusedAt}
+use Rattle.plan.specs.Schedule.{listed}
 use Rattle.plan.specs.declared.plan.Plan.{Plan}
 
 -- 01, 'Admitting sets', 5: three sets cover all boards, with the places of the first such triple.
@@ -58,3 +59,7 @@ planOn n sets dealer span depth = record {
 unfoldable pub planned : ℕ → List ℕ → ℕ → ℕ → ℕ → Plan
 planned n sets dealer span depth =
     cond (eqb (planning n (length sets) sets dealer span depth .number) 0) (planOn n sets dealer span depth) voidPlan
+
+-- What planning says of a plan's own fields (01, number 12: "a record whose plan .. would meet 1 to 8").
+unfoldable pub judged : Plan → Outcome
+judged p = planning (p .n) (p .count) (listed p) (p .dealer) (p .span) (p .depth)

@@ -1,12 +1,12 @@
 -- Demand 2, second sentence: "A list of sets within the limits is refused exactly if three of them, repeats allowed, cover all boards."
 use Prim.Native.Nat.{ℕ, _≤_, _<_}
 use mathlib.Core.Path.{_≡_}
-use mathlib.Core.Bool.{Bool, true, false, _||_}
+use mathlib.Core.Bool.{true, _||_}
 use mathlib.Core.List.{List, [], _∷_}
 use mathlib.Core.Logic.{_⊎_, _↔_}
 use lib.ListN.{length, getD}
-use Rattle.plan.specs.Sets.{member}
-use Rattle.plan.specs.Structure.{tolerated}
+use Rattle.sets.specs.Sets.{member}
+use Rattle.sets.specs.Structure.{tolerated}
 use Rattle.plan.specs.Calls.{admitting}
 
 -- Every board below n is in a, b or c.

@@ -1,6 +1,4 @@
-pub mod Search
-pub mod Sets
-pub mod Structure
+pub mod Cover
 pub mod Outcome
 pub mod Schedule
 pub mod Calls

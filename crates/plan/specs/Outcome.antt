@@ -2,32 +2,7 @@
 use Prim.Native.Nat.{ℕ}
 use mathlib.Core.List.{List, [], _∷_}
 use Rattle.plan.specs.declared.refusal.Refusal.{Refusal}
-use Rattle.plan.specs.declared.refusal.Refusal.the-variants.{
-  Boards,
-  NoSets,
-  TooManySets,
-  UnknownBoard,
-  Covered,
-  Dealer,
-  Span,
-  Depth,
-  BoardNumber,
-  BoardIsDealer,
-  ShortCells,
-  BadRecord,
-  Decided,
-  NotDue,
-  AlreadyTaken,
-  NothingToSend,
-  ShortOutput,
-  BadValue,
-  Undecided,
-  LongSheet,
-  BadText,
-  BadHead,
-  BadFaulty,
-  BadFrame,
-}
+use Rattle.plan.specs.declared.refusal.Refusal.the-variants.{Boards, NoSets, TooManySets, UnknownBoard, Covered, Dealer, Span, Depth, BoardNumber, BoardIsDealer, ShortCells, BadRecord, Decided, NotDue, AlreadyTaken, NothingToSend, ShortOutput, BadValue, Undecided, LongSheet, BadText, BadHead, BadFaulty, BadFrame}
 use Rattle.plan.specs.declared.refusal.Verdict.{Verdict}
 use Rattle.plan.specs.declared.refusal.Verdict.the-variants.{Accepted, Refused}
 

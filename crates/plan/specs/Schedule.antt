@@ -1,10 +1,10 @@
 -- Levels, rounds and runs of a plan.
-use Prim.Native.Nat.{ℕ, zero, suc, _+_, _-_, _*_, _/_, _%_, max}
-use mathlib.Core.Bool.{Bool, true, false, not, _&&_, cond}
+use Prim.Native.Nat.{ℕ, _+_, _-_, _*_, _/_, _%_, max}
+use mathlib.Core.Bool.{Bool, not, _&&_, cond}
 use mathlib.Core.List.{List, [], _∷_}
 use lib.Dec.{eqb, leb, ltb}
 use lib.ListN.{take}
-use Rattle.plan.specs.Sets.{member, size}
+use Rattle.sets.specs.Sets.{member, size}
 use Rattle.plan.specs.declared.plan.Plan.{Plan}
 use Rattle.plan.specs.declared.schedule.Run.{Run}
 use Rattle.plan.specs.declared.schedule.Round.{Round}

@@ -1,6 +1,5 @@
-// Sets of boards, adversary structures, plans and their rounds.
+// Plans: admitting sets, planning, and the rounds of a plan.
+pub mod admission;
 pub mod plan;
 pub mod refusal;
 pub mod schedule;
-pub mod sets;
-pub mod structure;

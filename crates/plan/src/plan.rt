@@ -1,7 +1,7 @@
 // Plans, and the call that makes one.
+use crate::admission::admit;
 use crate::refusal::Refusal;
 use crate::refusal::Verdict;
-use crate::structure::admit;
 ghost use mathlib.Core.Path.{_≡_};
 ghost use Prim.Native.Nat.{_-_, _≤_};
 ghost use mathlib.Core.List.{_++_};

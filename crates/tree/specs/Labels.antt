@@ -4,7 +4,7 @@ use Prim.Native.Nat.{ℕ, zero, suc}
 use mathlib.Core.Bool.{Bool, true, false, _||_, cond}
 use mathlib.Core.List.{List, [], _∷_, _++_}
 use lib.Dec.{eqb}
-use Rattle.plan.specs.Sets.{insert}
+use Rattle.sets.specs.Sets.{insert}
 
 abbrev pub Label : Type 0
 Label = List ℕ

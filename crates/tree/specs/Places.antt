@@ -5,7 +5,7 @@ use mathlib.Core.Bool.{Bool, true, false, not}
 use mathlib.Core.List.{List, [], _∷_}
 use mathlib.Core.Logic.{_⊎_}
 use lib.ListN.{length}
-use Rattle.plan.specs.Search.{count}
+use Rattle.sets.specs.Search.{count}
 use Rattle.tree.specs.Labels.{Label, occurs}
 
 -- 01: "Level k has (n − 1)(n − 2)…(n − k + 1) places".

@@ -1,5 +1,5 @@
 use Prim.Native.Nat.{ℕ, suc, _≤_, _<_, _-_, _+_}
-use mathlib.Core.Path.{_≡_, refl, sym, ap, ap₂, _∙_}
+use mathlib.Core.Path.{_≡_, refl, sym, ap, _∙_}
 use mathlib.Core.List.{List, [], _∷_, _++_}
 use native.Mathlib.Numerals.{add-one}
 use native.Mathlib.Omega.{arith}
@@ -7,8 +7,6 @@ use lib.ListN.{length, getD, set, take, replicate}
 use lib.Seq.{take-suc, take-all, set-at, append-snoc, length-take-le}
 use Rattle.plan.proofs.plan.copied.Statement.{statement}
 use Rattle.plan.proofs.plan.copied.Tie as tie
-use Rattle.plan.proofs.plan.copied.Reads as reads
-use Rattle.plan.proofs.plan.copied.Lts as lts
 
 -- The first i sets, and 00 in the other slots.
 abbrev filled : List ℕ → ℕ → List ℕ
@@ -30,34 +28,27 @@ Inv-loop sets slots₀ i₀ slots i = (i ≤ length sets) × (slots ≡ filled s
 abbrev μ-loop : tie.MeasureT-loop
 μ-loop sets slots₀ i₀ slots i = length sets - i
 
--- src/plan.rt:101:5
 loop-holds : tie.Need-loop-holds Inv-loop μ-loop
 loop-holds c = (omega arith, refl)
 
--- src/plan.rt:102:20
 shared-slice-read-slots : tie.Need-shared-slice-read-slots Inv-loop μ-loop
 shared-slice-read-slots c = omega arith
 
--- src/plan.rt:102:9
 array-write-slots : tie.Need-array-write-slots Inv-loop μ-loop
 array-write-slots c = omega arith
 
--- src/plan.rt:103:9
 add-i : tie.Need-add-i Inv-loop μ-loop
 add-i c = omega arith
 
--- src/plan.rt:101:5
 loop-less : tie.Need-loop-less Inv-loop μ-loop
 loop-less c = omega arith
 
--- src/plan.rt:101:5
 loop-again : tie.Need-loop-again Inv-loop μ-loop
 loop-again c =
     let sets = c .before .before .before .args .sets .now in
     let l = c .before .before .loop in
     (omega arith, ap (λ x. set x l.i (getD sets l.i 0)) (l .inv .1) ∙ one-more sets l.i (omega arith) (omega arith))
 
--- src/plan.rt:95:1
 returns : tie.Need-returns Inv-loop μ-loop
 returns c =
     let sets = c .before .before .args .sets .now in

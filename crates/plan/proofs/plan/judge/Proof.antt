@@ -1,34 +1,25 @@
 use Rattle.plan.specs.Calls.{admitting}
 use Rattle.plan.proofs.Outcomes.{taken-first, refused-first, refusal-number}
-use mathlib.Core.Path.{_≡_, refl, sym, ap, _∙_}
+use mathlib.Core.Path.{sym, ap, _∙_}
 use lib.ListN.{length}
-use Rattle.plan.specs.Outcome.{Outcome, verdict}
-use Rattle.plan.specs.Calls.{planning, andThen, settings}
+use Rattle.plan.specs.Outcome.{verdict}
+use Rattle.plan.specs.Calls.{planning, settings}
 use borrow.Author.Needs.{needs}
 use Rattle.plan.proofs.plan.judge.Statement.{statement}
 use Rattle.plan.proofs.plan.judge.Tie as tie
-use Rattle.plan.proofs.plan.judge.Reads as reads
-use Rattle.plan.proofs.plan.judge.Lts as lts
-use Rattle.plan.proofs.plan.judge_settings.Reads as judge-settings-reads
-use Rattle.plan.proofs.structure.admit.Reads as admit-reads
 
--- src/plan.rt:112:9
 admit-requires : tie.Need-admit-requires
 admit-requires c κs = search needs
 
--- src/plan.rt:114:30
 enum-told : tie.Need-enum-told
 enum-told c = search needs
 
--- src/plan.rt:114:30
 judge-settings-requires : tie.Need-judge-settings-requires
 judge-settings-requires c κs = search needs
 
--- src/plan.rt:115:26
 enum-known-answer : tie.Need-enum-known-answer
 enum-known-answer c = search needs
 
--- src/plan.rt:109:1
 returns : tie.Need-returns
 unfolding planning verdict
 returns c =
@@ -36,7 +27,6 @@ returns c =
     let ok = ap verdict (sym (c .before .enum-told .given .1)) ∙ c .before .before .before .admit .ensures in
     c .judge-settings .ensures ∙ sym (taken-first (admitting a.n (length (a.sets .now)) (a.sets .now)) (settings a.n a.dealer a.span a.depth) (ap (λ o. o .number) (sym ok)))
 
--- src/plan.rt:109:1
 returns-2 : tie.Need-returns-2
 unfolding planning verdict
 returns-2 c =

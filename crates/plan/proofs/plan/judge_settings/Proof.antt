@@ -3,35 +3,27 @@ use Rattle.plan.specs.Outcome.{verdict, refusal}
 use Rattle.plan.specs.Calls.{settings, isDepth}
 use Rattle.plan.proofs.plan.judge_settings.Statement.{statement}
 use Rattle.plan.proofs.plan.judge_settings.Tie as tie
-use Rattle.plan.proofs.plan.judge_settings.Reads as reads
-use Rattle.plan.proofs.plan.judge_settings.Lts as lts
 
--- src/plan.rt:124:9
 returns : tie.Need-returns
 unfolding verdict refusal settings
 returns c = simp (le-leb _ _ (c .if1 .taken))
 
--- src/plan.rt:127:9
 returns-2 : tie.Need-returns-2
 unfolding verdict refusal settings
 returns-2 c = simp (lt-leb _ _ (c .before .if1 .left), lt-ltb _ _ (c .if2 .taken))
 
--- src/plan.rt:130:9
 returns-3 : tie.Need-returns-3
 unfolding verdict refusal settings isDepth
 returns-3 c = simp (lt-leb _ _ (c .before .before .if1 .left), le-ltb _ _ (c .before .if2 .left), eq-eqb _ _ (c .if3 .taken))
 
--- src/plan.rt:133:9
 returns-4 : tie.Need-returns-4
 unfolding verdict refusal settings isDepth
 returns-4 c = simp (lt-leb _ _ (c .before .before .before .if1 .left), le-ltb _ _ (c .before .before .if2 .left), ne-eqb _ _ (c .before .if3 .left), lt-leb _ _ (c .if4 .taken))
 
--- src/plan.rt:136:9
 returns-5 : tie.Need-returns-5
 unfolding verdict refusal settings isDepth
 returns-5 c = simp (lt-leb _ _ (c .before .before .before .before .if1 .left), le-ltb _ _ (c .before .before .before .if2 .left), ne-eqb _ _ (c .before .before .if3 .left), le-leb _ _ (c .before .if4 .left), lt-leb _ _ (c .if5 .taken))
 
--- src/plan.rt:120:1
 returns-6 : tie.Need-returns-6
 unfolding verdict refusal settings isDepth
 returns-6 c = simp (lt-leb _ _ (c .before .before .before .before .if1 .left), le-ltb _ _ (c .before .before .before .if2 .left), ne-eqb _ _ (c .before .before .if3 .left), le-leb _ _ (c .before .if4 .left), le-leb _ _ (c .if5 .left))

@@ -2,10 +2,7 @@ use mathlib.Core.Path.{refl}
 use Rattle.plan.specs.Calls.{voidPlan}
 use Rattle.plan.proofs.plan.Plan.void.Statement.{statement}
 use Rattle.plan.proofs.plan.Plan.void.Tie as tie
-use Rattle.plan.proofs.plan.Plan.void.Reads as reads
-use Rattle.plan.proofs.plan.Plan.void.Lts as lts
 
--- src/plan.rt:64:5
 returns : tie.Need-returns
 unfolding voidPlan
 returns c = refl

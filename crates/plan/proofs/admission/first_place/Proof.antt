@@ -1,0 +1,72 @@
+use Prim.Native.Nat.{ℕ, _≤_, _-_}
+use mathlib.Core.Path.{_≡_, sym, ap, _∙_}
+use mathlib.Core.Bool.{Bool}
+use mathlib.Core.List.{List}
+use native.Mathlib.Omega.{arith}
+use borrow.Author.Tests.{lt-ltb, le-ltb}
+use lib.Dec.{ltb}
+use lib.ListN.{length}
+use Rattle.sets.specs.Search.{first}
+use Rattle.plan.specs.Cover.{secondPlace, firstPlace}
+use Rattle.sets.proofs.Search.{seek-start, seek-hit, seek-miss, seek-none}
+use Rattle.plan.proofs.admission.first_place.Statement.{statement}
+use Rattle.plan.proofs.admission.first_place.Tie as tie
+
+-- There are a second and a third place for i.
+abbrev second : ℕ → List ℕ → ℕ → Bool
+second n sets i = ltb (secondPlace n sets i) (length sets)
+
+abbrev Inv-loop : tie.InvT-loop
+Inv-loop n sets i₀ i = (i ≤ length sets) × (first (second n sets) (length sets - i) i ≡ firstPlace n sets)
+
+abbrev μ-loop : tie.MeasureT-loop
+μ-loop n sets i₀ i = length sets - i
+
+loop-holds : tie.Need-loop-holds Inv-loop μ-loop
+unfolding firstPlace
+loop-holds c = let a = c .before .args in (omega arith, seek-start (second a.n (a.sets .now)) (length (a.sets .now)))
+
+second-place-requires : tie.Need-second-place-requires Inv-loop μ-loop
+second-place-requires c κs = omega arith
+
+returns : tie.Need-returns Inv-loop μ-loop
+returns c =
+    let a = c .before .before .before .before .before .args in
+    let l = c .before .before .before .loop in
+    seek-hit (second a.n (a.sets .now)) (length (a.sets .now)) l.i _ (l .inv .1) (omega arith)
+    (ap (λ x. ltb x (length (a.sets .now))) (sym (c .before .second-place .ensures)) ∙ lt-ltb _ _ (c .if1 .taken))
+
+add-i : tie.Need-add-i Inv-loop μ-loop
+add-i c = omega arith
+
+loop-less : tie.Need-loop-less Inv-loop μ-loop
+loop-less c = omega arith
+
+loop-again : tie.Need-loop-again Inv-loop μ-loop
+loop-again c =
+    let a = c .before .before .before .before .before .args in
+    let l = c .before .before .before .loop in (
+      omega arith,
+      seek-miss (second a.n (a.sets .now)) (length (a.sets .now)) l.i _ (l .inv .1) (omega arith)
+          (ap (λ x. ltb x (length (a.sets .now))) (sym (c .before .second-place .ensures)) ∙ le-ltb _ _ (c .if1 .left)),
+    )
+
+returns-2 : tie.Need-returns-2 Inv-loop μ-loop
+returns-2 c =
+    let a = c .before .before .before .args in
+    let l = c .before .loop in
+    seek-none (second a.n (a.sets .now)) (length (a.sets .now)) l.i _ (l .inv .1) (omega arith)
+
+pub first-place-spec : {M : Type 1} → statement M
+first-place-spec =
+    tie.close
+    (tie.spec
+    Inv-loop
+    μ-loop
+    loop-holds
+    second-place-requires
+    returns
+    add-i
+    loop-less
+    loop-again
+    returns-2)

@@ -1,0 +1,5 @@
+pub mod Tests
+pub mod Search
+pub mod Count
+pub mod Member
+pub mod Tolerated

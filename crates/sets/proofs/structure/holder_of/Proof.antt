@@ -1,0 +1,74 @@
+use Rattle.sets.specs.Structure.{place, holder}
+use Rattle.sets.proofs.Search.{seek-start, seek-hit, seek-miss, seek-none}
+use Rattle.sets.proofs.Tolerated.{holds, holder-empty, holder-at, holder-none}
+use Rattle.sets.specs.Search.{first}
+use lib.ListN.{length}
+use borrow.Author.Needs.{needs}
+use native.Mathlib.Omega.{arith}
+use Prim.Native.Nat.{_≤_, _-_}
+use mathlib.Core.Path.{_≡_, sym, ap, _∙_}
+use Rattle.sets.proofs.structure.holder_of.Statement.{statement}
+use Rattle.sets.proofs.structure.holder_of.Tie as tie
+
+abbrev Inv-loop : tie.InvT-loop
+Inv-loop sets a i₀ i = (i ≤ length sets) × (first (holds sets a) (length sets - i) i ≡ first (holds sets a) (length sets) 0)
+
+abbrev μ-loop : tie.MeasureT-loop
+μ-loop sets a i₀ i = length sets - i
+
+returns : tie.Need-returns Inv-loop μ-loop
+unfolding place
+returns c = let a = c .before .before .args in sym (holder-empty (a.sets .now)) ∙ ap (holder (a.sets .now)) (sym (c .if1 .taken))
+
+loop-holds : tie.Need-loop-holds Inv-loop μ-loop
+loop-holds c = let a = c .before .before .args in (omega arith, seek-start (holds (a.sets .now) a.a) (length (a.sets .now)))
+
+shared-slice-read-subset : tie.Need-shared-slice-read-subset Inv-loop μ-loop
+shared-slice-read-subset c = omega arith
+
+subset-requires : tie.Need-subset-requires Inv-loop μ-loop
+subset-requires c κs = search needs
+
+returns-2 : tie.Need-returns-2 Inv-loop μ-loop
+unfolding place
+returns-2 c =
+    let a = c .before .before .before .before .before .before .before .args in
+    let l = c .before .before .before .before .loop in
+    let hit = seek-hit (holds (a.sets .now) a.a) (length (a.sets .now)) l.i _ (l .inv .1) (omega arith) (sym (c .before .subset .ensures) ∙ c .if2 .taken) in
+    sym (holder-at (a.sets .now) a.a l.i (c .before .before .before .before .before .if1 .left) hit (omega arith))
+
+add-i : tie.Need-add-i Inv-loop μ-loop
+add-i c = omega arith
+
+loop-less : tie.Need-loop-less Inv-loop μ-loop
+loop-less c = omega arith
+
+loop-again : tie.Need-loop-again Inv-loop μ-loop
+loop-again c =
+    let a = c .before .before .before .before .before .before .before .args in
+    let l = c .before .before .before .before .loop in
+    (omega arith, seek-miss (holds (a.sets .now) a.a) (length (a.sets .now)) l.i _ (l .inv .1) (omega arith) (sym (c .before .subset .ensures) ∙ c .if2 .left))
+
+returns-3 : tie.Need-returns-3 Inv-loop μ-loop
+unfolding place
+returns-3 c =
+    let a = c .before .before .before .before .args in
+    let l = c .before .loop in
+    let end = seek-none (holds (a.sets .now) a.a) (length (a.sets .now)) l.i _ (l .inv .1) (omega arith) in
+    sym (holder-none (a.sets .now) a.a l.i (c .before .before .if1 .left) end (omega arith))
+
+pub holder-of-spec : {M : Type 1} → statement M
+holder-of-spec =
+    tie.close
+    (tie.spec
+    Inv-loop
+    μ-loop
+    returns
+    loop-holds
+    shared-slice-read-subset
+    subset-requires
+    returns-2
+    add-i
+    loop-less
+    loop-again
+    returns-3)

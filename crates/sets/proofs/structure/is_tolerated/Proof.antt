@@ -1,0 +1,25 @@
+use mathlib.Core.Path.{sym, ap, _∙_}
+use Rattle.sets.specs.Structure.{place, isSome, tolerated}
+use borrow.Author.Needs.{needs}
+use Rattle.sets.proofs.structure.is_tolerated.Statement.{statement}
+use Rattle.sets.proofs.structure.is_tolerated.Tie as tie
+
+holder-of-requires : tie.Need-holder-of-requires
+holder-of-requires c κs = search needs
+
+enum-told : tie.Need-enum-told
+enum-told c = search needs
+
+enum-told-2 : tie.Need-enum-told-2
+enum-told-2 c = search needs
+
+returns : tie.Need-returns
+unfolding place isSome tolerated
+returns c = ap (λ r. isSome (place r)) (sym (c .enum-told .given .1)) ∙ ap isSome (c .before .before .holder-of .ensures)
+
+returns-2 : tie.Need-returns-2
+unfolding place isSome tolerated
+returns-2 c = ap (λ r. isSome (place r)) (sym (c .enum-told2 .given .1)) ∙ ap isSome (c .before .before .holder-of .ensures)
+
+pub is-tolerated-spec : {M : Type 1} → statement M
+is-tolerated-spec = tie.close (tie.spec holder-of-requires enum-told enum-told-2 returns returns-2)

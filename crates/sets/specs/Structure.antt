@@ -1,0 +1,32 @@
+-- An adversary structure, given by listed sets (01: "A structure is given by 1 to 32 sets"; 003: its basis).
+use Prim.Native.Nat.{ℕ}
+use mathlib.Core.Bool.{Bool, true, false, cond}
+use mathlib.Core.List.{List}
+use mathlib.Core.Option.{Option, some, none}
+use lib.Dec.{eqb, ltb}
+use lib.ListN.{length, getD}
+use Rattle.sets.specs.Search.{first}
+use Rattle.sets.specs.declared.structure.Place.{Place}
+use Rattle.sets.specs.declared.structure.Place.the-variants.{At, Nowhere}
+use Rattle.sets.specs.Sets.{within}
+
+-- The place, from 0, of the first listed set that holds a; none if no listed set does.
+-- The empty set is held at place 0, also by an empty list.
+unfoldable pub holder : List ℕ → ℕ → Option ℕ
+holder sets a =
+    let i = first (λ i. within a (getD sets i 0)) (length sets) 0 in
+    let listed = cond (ltb i (length sets)) (some i) none in
+    cond (eqb a 0) (some 0) listed
+
+-- What the code's `Place` says.
+unfoldable pub place : Place → Option ℕ
+place (At i) = some i
+place Nowhere = none
+
+unfoldable pub isSome : Option ℕ → Bool
+isSome none = false
+isSome (some i) = true
+
+-- 01: "A set is tolerated if it lies within a listed set; the empty set always is." 003: an adversary set.
+unfoldable pub tolerated : List ℕ → ℕ → Bool
+tolerated sets a = isSome (holder sets a)

@@ -1,0 +1,3 @@
+// Sets of boards and adversary structures.
+pub mod boards;
+pub mod structure;
