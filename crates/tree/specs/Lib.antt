@@ -1,3 +1,4 @@
 pub mod Labels
 pub mod Places
+pub mod Outside
 pub mod Cells

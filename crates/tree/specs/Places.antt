@@ -1,11 +1,13 @@
 -- Where the cell of a label stands. 01: "Cells stand by level, inside a level by label".
-use Prim.Native.Nat.{ℕ, zero, suc, _+_, _-_, _*_, _≤_, _<_}
+use Prim.Native.Nat.{ℕ, zero, suc, _+_, _-_, _*_, _<_}
 use mathlib.Core.Path.{_≡_}
-use mathlib.Core.Bool.{Bool, true, false, not}
-use mathlib.Core.List.{List, [], _∷_}
+use mathlib.Core.Bool.{not, _&&_, cond}
+use mathlib.Core.List.{[], _∷_}
 use mathlib.Core.Logic.{_⊎_}
+use lib.Dec.{leb}
 use lib.ListN.{length}
 use Rattle.sets.specs.Search.{count}
+use Rattle.sets.specs.Sets.{member}
 use Rattle.tree.specs.Labels.{Label, occurs}
 
 -- 01: "Level k has (n − 1)(n − 2)…(n − k + 1) places".
@@ -23,6 +25,16 @@ levelStart n (suc k) = levelStart n k + levelSize n k
 unfoldable pub cellCount : ℕ → ℕ
 cellCount n = levelStart n (suc n)
 
+-- 01 has levels and cells for n from 1 to 7: what a call answers for any n, 0 outside these.
+unfoldable pub sizeWithin : ℕ → ℕ → ℕ
+sizeWithin n k = cond (leb 1 n && leb n 7) (levelSize n k) 0
+
+unfoldable pub startWithin : ℕ → ℕ → ℕ
+startWithin n k = cond (leb 1 n && leb n 7) (levelStart n k) 0
+
+unfoldable pub countWithin : ℕ → ℕ
+countWithin n = cond (leb 1 n && leb n 7) (cellCount n) 0
+
 -- The number of q, from 0, among the children of α: the boards below q that are not on α.
 unfoldable pub ordinal : ℕ → Label → ℕ
 ordinal q α = count (λ i. not (occurs i α)) q
@@ -32,6 +44,15 @@ unfoldable pub rank : ℕ → Label → ℕ
 rank n [] = 0
 rank n (q ∷ []) = 0
 rank n (q ∷ (r ∷ α)) = rank n (r ∷ α) * (n - length (r ∷ α)) + ordinal q (r ∷ α)
+
+-- How many boards below k are outside a set.
+unfoldable pub outsideBelow : ℕ → ℕ → ℕ
+outsideBelow s k = count (λ i. not (member i s)) k
+
+-- The number, in its level, of a node's child by board q. The node is given by its level, its number and the set of its boards.
+-- Total: `n - level` is 0 for a level past n, and the numbers below q that are outside the set are counted for any q.
+unfoldable pub childIndex : ℕ → ℕ → ℕ → ℕ → ℕ → ℕ
+childIndex n level index s q = index * (n - level) + outsideBelow s q
 
 unfoldable pub place : ℕ → Label → ℕ
 place n α = levelStart n (length α) + rank n α

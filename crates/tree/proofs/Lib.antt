@@ -1,0 +1,15 @@
+pub mod Below
+pub mod Entries
+pub mod Masks
+pub mod Labels
+pub mod Sizes
+pub mod Children
+pub mod Ranks
+pub mod Places
+pub mod Order
+pub mod Cells
+pub mod Within
+pub mod Boards
+pub mod Descent
+pub mod Limits
+pub mod ChildIndex
