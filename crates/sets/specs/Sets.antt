@@ -1,6 +1,6 @@
 -- Sets of boards as bytes. 01: "A set of boards is a byte; bit i means board i."
-use Prim.Native.Nat.{ℕ, _-_, _/_, _%_, _^_}
-use mathlib.Core.Bool.{Bool}
+use Prim.Native.Nat.{ℕ, zero, suc, _-_, _/_, _%_, _^_}
+use mathlib.Core.Bool.{Bool, cond}
 use lib.Bits.{bitAnd, bitOr}
 use lib.Dec.{eqb}
 use Rattle.sets.specs.Search.{count}
@@ -24,6 +24,11 @@ within a s = eqb (bitAnd a s) a
 -- All boards, 0 to n - 1.
 unfoldable pub boards : ℕ → ℕ
 boards n = 2 ^ n - 1
+
+-- The set of the boards below n that pass the test.
+unfoldable pub setOf : (ℕ → Bool) → ℕ → ℕ
+setOf f zero = 0
+setOf f (suc k) = let rest = setOf f k in cond (f k) (insert k rest) rest
 
 -- How many boards a set has.
 unfoldable pub size : ℕ → ℕ

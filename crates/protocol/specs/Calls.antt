@@ -1,0 +1,150 @@
+-- The six calls of a board: from all inputs to the answer, the record and every lent byte.
+use Prim.Native.Nat.{ℕ}
+use mathlib.Core.Bool.{Bool, false, not, _&&_, _||_, cond}
+use mathlib.Core.List.{List, [], _∷_, _++_}
+use lib.Dec.{eqb, leb, ltb}
+use lib.ListN.{length, drop, replicate}
+use Rattle.sets.specs.Search.{any}
+use Rattle.sets.specs.Sets.{member, within, boards}
+use Rattle.plan.specs.declared.plan.Plan.{Plan}
+use Rattle.plan.specs.Schedule.{hasRound}
+use Rattle.plan.specs.Outcome.{Outcome, taken, refused}
+use Rattle.plan.specs.Calls.{andThen, judged, voidPlan}
+use Rattle.tree.specs.Places.{cellCount}
+use Rattle.tree.specs.Cells.{blank}
+use Rattle.protocol.specs.declared.records.Record.{Record}
+use Rattle.protocol.specs.Nodes.{due, frame}
+use Rattle.protocol.specs.Rounds.{Board, receive, close}
+
+-- What a call on a board leaves: the answer, and the board.
+pub record Result : Type 0 where
+  pub answer : Outcome
+  pub board : Board
+
+-- What writing a frame leaves: the answer, and the output.
+pub record Output : Type 0 where
+  pub answer : Outcome
+  pub out : List ℕ
+
+-- What is judged, if it refuses, and then changes nothing; else the answer of a call that is taken.
+unfoldable pub isTaken : Outcome → Bool
+isTaken o = eqb (o .number) 0
+
+-- 9 and 10: the board's number.
+unfoldable pub judgeBoard : Plan → ℕ → Outcome
+judgeBoard p i = cond (leb (p .n) i) (refused 9) (cond (eqb i (p .dealer)) (refused 10) (taken []))
+
+-- 11: "cells too few".
+unfoldable pub judgeCells : Plan → List ℕ → Outcome
+judgeCells p cells = cond (ltb (length cells) (cellCount (p .n))) (refused 11) (taken [])
+
+-- 12: "a record whose plan or board would meet 1 to 10, whose run or round the plan lacks, that lists or marks board n or above,
+-- or that is decided with a decision not below m".
+unfoldable pub goodMarks : Record → Bool
+goodMarks r = within (r .detected) (boards (r .plan .n)) && within (r .taken) (boards (r .plan .n))
+
+unfoldable pub goodDecision : Record → Bool
+goodDecision r = not (r .decided) || ltb (r .decision) (r .plan .span)
+
+unfoldable pub goodRecord : Record → Bool
+goodRecord r =
+    (isTaken (judged (r .plan)) && isTaken (judgeBoard (r .plan) (r .board)))
+    && (hasRound (r .plan) (r .run) (r .round) && (goodMarks r && goodDecision r))
+
+unfoldable pub judgeRecord : Record → Outcome
+judgeRecord r = cond (goodRecord r) (taken []) (refused 12)
+
+-- 12, 11, 13: what handing in, writing and closing judge first.
+unfoldable pub judgeOpen : Board → Outcome
+judgeOpen b =
+    andThen (judgeRecord (b .rec))
+    (andThen (judgeCells (b .rec .plan) (b .cells)) (cond (b .rec .decided) (refused 13) (taken [])))
+
+-- The record of a board that begins: run 1, round 1, nothing listed or marked.
+unfoldable pub freshRecord : Plan → ℕ → Record
+freshRecord p i = record {
+  plan = p;
+  board = i;
+  run = record { 0 = 1 };
+  round = record { 0 = 1 };
+  detected = 0;
+  taken = 0;
+  decided = false;
+  decision = 0;
+}
+
+-- The record beside a refused beginning: everything 0, so that every call on it is number 12.
+unfoldable pub voidRecord : Record
+voidRecord = record {
+  plan = voidPlan;
+  board = 0;
+  run = record { 0 = 0 };
+  round = record { 0 = 0 };
+  detected = 0;
+  taken = 0;
+  decided = false;
+  decision = 0;
+}
+
+-- 01, 'Beginning a board': 1 to 8, then 9, 10, 11. Its cells hold FF; surplus cells are not touched.
+unfoldable pub judgeBeginning : Plan → ℕ → List ℕ → Outcome
+judgeBeginning p i cells = andThen (judged p) (andThen (judgeBoard p i) (judgeCells p cells))
+
+unfoldable pub beginning : Plan → ℕ → List ℕ → Result
+beginning p i cells =
+    let answer = judgeBeginning p i cells in
+    let begun : Board = record { rec = freshRecord p i; cells = replicate (cellCount (p .n)) blank ++ drop (cellCount (p .n)) cells } in
+    let kept : Board = record { rec = voidRecord; cells = cells } in
+    record { answer = answer; board = cond (isTaken answer) begun kept }
+
+-- 01, 'Dealer's frame': 1 to 8, then 18. The frame is one byte.
+unfoldable pub dealing : Plan → ℕ → Outcome
+dealing p v = andThen (judged p) (cond (leb (p .span) v) (refused 18) (taken (v ∷ [])))
+
+-- 01, 'Handing in': 12, 11, 13, 14, 15.
+unfoldable pub judgeReceiving : Board → ℕ → Outcome
+judgeReceiving b q =
+    let r = b .rec in
+    andThen (judgeOpen b)
+    (cond (due (r .plan) q (r .board) (r .round)) (cond (member q (r .taken)) (refused 15) (taken [])) (refused 14))
+
+unfoldable pub receiving : Board → ℕ → List ℕ → Result
+receiving b q f =
+    let answer = judgeReceiving b q in
+    let next = receive q f b in
+    record { answer = answer; board = cond (isTaken answer) next b }
+
+-- The frame that a board sends in its round.
+unfoldable pub frameOf : Board → List ℕ
+frameOf b = let r = b .rec in frame (r .plan) (r .board) (r .board) (r .round) (b .cells)
+
+-- 01, 'Writing a frame': 12, 11, 13, then 16, 17. Output past what is written is not touched.
+unfoldable pub judgeSending : Board → List ℕ → Outcome
+judgeSending b out =
+    let r = b .rec in
+    let f = frameOf b in
+    andThen (judgeOpen b)
+    (cond (any (λ i. due (r .plan) (r .board) i (r .round)) (r .plan .n))
+    (cond (ltb (length out) (length f)) (refused 17) (taken (length f ∷ [])))
+    (refused 16))
+
+unfoldable pub sending : Board → List ℕ → Output
+sending b out =
+    let answer = judgeSending b out in
+    let written = frameOf b ++ drop (length (frameOf b)) out in
+    record { answer = answer; out = cond (isTaken answer) written out }
+
+-- 01, 'Closing': 12, 11, 13. It answers the run and the round that are open now, or that the board has decided.
+unfoldable pub closedValues : Record → List ℕ
+closedValues r = cond (r .decided) [] (r .run .0 ∷ r .round .0 ∷ [])
+
+unfoldable pub closing : Board → Result
+closing b =
+    let judgement = judgeOpen b in
+    let next = close b in
+    let answer = andThen judgement (taken (closedValues (next .rec))) in
+    record { answer = answer; board = cond (isTaken judgement) next b }
+
+-- 01, 'Reading the decision': 12, then 19.
+unfoldable pub deciding : Record → Outcome
+deciding r = andThen (judgeRecord r) (cond (r .decided) (taken (r .decision ∷ [])) (refused 19))

@@ -1,0 +1,108 @@
+-- Resolving, and the rules by which a board detects faulty boards.
+use Prim.Native.Nat.{ℕ, zero, suc, _-_}
+use mathlib.Core.Bool.{Bool, true, false, not, _&&_, _||_, cond}
+use mathlib.Core.List.{List, [], _∷_}
+use mathlib.Core.Option.{Option, some, none, Option·getD}
+use lib.Dec.{eqb, leb, ltb}
+use lib.ListN.{length, getD}
+use Rattle.sets.specs.Search.{first, any}
+use Rattle.sets.specs.Sets.{member, insert, setOf}
+use Rattle.sets.specs.Structure.{tolerated}
+use Rattle.plan.specs.declared.plan.Plan.{Plan}
+use Rattle.plan.specs.Schedule.{listed, rounds}
+use Rattle.tree.specs.Labels.{Label, occurs, last}
+use Rattle.tree.specs.Cells.{store}
+use Rattle.protocol.specs.Nodes.{default, read, internal, nodes, inner}
+
+-- What a child is worth: a value, or none.
+unfoldable pub is : ℕ → Option ℕ → Bool
+is v none = false
+is v (some x) = eqb x v
+
+-- The only number below k that passes the test; none if there is none or more than one.
+unfoldable pub only : (ℕ → Bool) → ℕ → Option ℕ
+only f k =
+    let i = first f k 0 in
+    let j = first f (k - suc i) (suc i) in
+    let found = some i in
+    cond (ltb i k && leb k j) found none
+
+-- 01: "the only value v below m for which the children resolved to v form a set that is not tolerated"; f has what each child
+-- of α is worth.
+unfoldable pub vote : Plan → Label → (ℕ → Option ℕ) → Option ℕ
+vote p α f = only (λ v. not (tolerated (listed p) (setOf (λ c. not (occurs c α) && is v (f c)) (p .n)))) (p .span)
+
+-- f at the boards 0 to k - 1, rising.
+unfoldable pub tabulate : (ℕ → Option ℕ) → ℕ → ℕ → List (Option ℕ)
+tabulate f i zero = []
+tabulate f i (suc k) = f i ∷ tabulate f (suc i) k
+
+-- 01: "A leaf resolves to its cell. An internal node resolves to the only value ..; if there is none or more than one .. to none".
+-- `left` is the number of levels below the node.
+unfoldable pub resolve : Plan → ℕ → List ℕ → ℕ → Label → Option ℕ
+resolve p i cells zero α = some (read p cells α)
+resolve p i cells (suc left) α =
+    elim (internal p i α) [
+      | true ↦
+          let results = tabulate (λ c. elim (occurs c α) [ true ↦ none | false ↦ resolve p i cells left (c ∷ α) ]) 0 (p .n) in
+          vote p α (λ c. getD results c none)
+      | false ↦ some (read p cells α)
+    ]
+
+-- The root. 01: an unresolved root is 0.
+unfoldable pub resolveRoot : Plan → ℕ → List ℕ → ℕ
+resolveRoot p i cells = Option·getD (resolve p i cells (rounds p .0 - 1) (p .dealer ∷ [])) (default p)
+
+-- 01: a value v below m makes "{children whose cell is not v} ∪ L tolerated"; f has what each child of α is worth.
+unfoldable pub explained : Plan → Label → (ℕ → Option ℕ) → ℕ → Bool
+explained p α f detected =
+    any (λ v. tolerated (listed p) (setOf (λ c. (not (occurs c α) && not (is v (f c))) || member c detected) (p .n))) (p .span)
+
+-- Board r joins the list.
+unfoldable pub join : ℕ → ℕ → ℕ
+join r detected = insert r detected
+
+-- Does the rule leave the list as it is at node α? 01: "If r is not in L and no value v ..., r joins L".
+unfoldable pub passes : Plan → Label → (ℕ → Option ℕ) → ℕ → Bool
+passes p α f detected = member (last α) detected || explained p α f detected
+
+-- The list and the cells, as a rule goes over the nodes.
+pub record Scan : Type 0 where
+  pub detected : ℕ
+  pub cells : List ℕ
+
+-- Every cell of the nodes given that end in r becomes the default.
+unfoldable pub maskBoard : Plan → ℕ → List Label → List ℕ → List ℕ
+maskBoard p r [] cells = cells
+maskBoard p r (γ ∷ γs) cells = maskBoard p r γs (cond (eqb (last γ) r) (store (p .n) cells γ (default p)) cells)
+
+-- 003: FD1; 01: rule G. At one internal node of board i: r joins, "and every level-k cell whose node ends in r becomes 0 before
+-- the next node is looked at".
+unfoldable pub detect1 : Plan → ℕ → Label → Scan → Scan
+detect1 p i α s =
+    elim (passes p α (λ c. some (read p (s .cells) (c ∷ α))) (s .detected)) [
+      | true ↦ s
+      | false ↦ record {
+        detected = join (last α) (s .detected);
+        cells = maskBoard p (last α) (nodes p i (suc (length α))) (s .cells);
+      }
+    ]
+
+unfoldable pub detectAll1 : Plan → ℕ → List Label → Scan → Scan
+detectAll1 p i [] s = s
+detectAll1 p i (α ∷ αs) s = detectAll1 p i αs (detect1 p i α s)
+
+-- 003: FD2; 01: rule C, "rule G on resolved children, without changing cells".
+unfoldable pub detect2 : Plan → ℕ → List ℕ → Label → ℕ → ℕ
+detect2 p i cells α detected =
+    elim (passes p α (λ c. resolve p i cells (rounds p .0 - suc (length α)) (c ∷ α)) detected)
+    [ true ↦ detected | false ↦ join (last α) detected ]
+
+unfoldable pub detectAll2 : Plan → ℕ → List ℕ → List Label → ℕ → ℕ
+detectAll2 p i cells [] detected = detected
+detectAll2 p i cells (α ∷ αs) detected = detectAll2 p i cells αs (detect2 p i cells α detected)
+
+-- 01: "over levels R − 1 down to 1, each in cell order": levels k down to 1.
+unfoldable pub detectLevels : Plan → ℕ → List ℕ → ℕ → ℕ → ℕ
+detectLevels p i cells zero detected = detected
+detectLevels p i cells (suc k) detected = detectLevels p i cells k (detectAll2 p i cells (inner p i (suc k)) detected)

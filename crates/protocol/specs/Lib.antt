@@ -1,0 +1,10 @@
+pub mod Answers
+pub mod Nodes
+pub mod Detection
+pub mod Rounds
+pub mod Calls
+pub mod Session
+pub mod Sheet
+pub mod Playing
+pub mod Lists
+pub mod Cases

@@ -1,0 +1,168 @@
+-- The lists of calls in demand 3, when such a list is fair, and what is claimed of every fair list.
+use Prim.Native.Nat.{ℕ, _+_, _*_, _-_, _≤_, _<_}
+use mathlib.Core.Path.{_≡_}
+use mathlib.Core.Logic.{_≢_, _↔_}
+use mathlib.Core.Bool.{Bool, true, false, not, _&&_, cond}
+use mathlib.Core.List.{List, [], _∷_, _++_}
+use lib.Dec.{eqb, ltb}
+use lib.ListN.{length, getD, take}
+use Rattle.sets.specs.Search.{any, count}
+use Rattle.sets.specs.Sets.{member, within}
+use Rattle.sets.specs.Structure.{tolerated}
+use Rattle.plan.specs.Schedule.{listed, isCut, rounds, steps}
+use Rattle.plan.specs.Outcome.{Outcome, taken}
+use Rattle.plan.specs.Calls.{judged}
+use Rattle.tree.specs.Places.{cellCount}
+use Rattle.tree.specs.Cells.{blank}
+use Rattle.protocol.specs.Nodes.{due}
+use Rattle.protocol.specs.Rounds.{Board}
+use Rattle.protocol.specs.Calls.{dealing, receiving, sending, closing, deciding}
+use Rattle.protocol.specs.Session.{Setting, begun}
+
+-- 01: "Each call in the list is a handing in, a writing, a closing or a reading of the decision by one of the boards with a record."
+-- The first number is that board's; a handing in has the sender's number and a copy of the frame, a writing the lent output.
+pub data Call : Type 0 where
+  receive : ℕ → ℕ → List ℕ → Call
+  send : ℕ → List ℕ → Call
+  close : ℕ → Call
+  decide : ℕ → Call
+
+unfoldable pub caller : Call → ℕ
+caller (receive i q f) = i
+caller (send i out) = i
+caller (close i) = i
+caller (decide i) = i
+
+-- What a call does to its board, and what it answers: literally the definitions of the calls.
+unfoldable pub leaves : Call → Board → Board
+leaves (receive i q f) b = receiving b q f .board
+leaves (send i out) b = b
+leaves (close i) b = closing b .board
+leaves (decide i) b = b
+
+unfoldable pub answers : Call → Board → Outcome
+answers (receive i q f) b = receiving b q f .answer
+answers (send i out) b = sending b out .answer
+answers (close i) b = closing b .answer
+answers (decide i) b = deciding (b .rec)
+
+-- 01: "It gets that board's record and cells as that board's call before returned or left them, and nobody else writes them meanwhile."
+abbrev pub World : Type 0
+World = ℕ → Board
+
+unfoldable pub step : World → Call → World
+step w c i = cond (eqb i (caller c)) (leaves c (w i)) (w i)
+
+unfoldable pub after : World → List Call → World
+after w [] = w
+after w (c ∷ cs) = after (step w c) cs
+
+-- 01: "Each board outside F except d has its own record and cells, as its beginning on that plan left them".
+unfoldable pub keeper : Setting → ℕ → Bool
+keeper s i = ltb i (s .plan .n) && (not (member i (s .faulty)) && not (eqb i (s .plan .dealer)))
+
+-- Board i after the calls.
+unfoldable pub state : Setting → List Call → ℕ → Board
+state s calls = after (begun s) calls
+
+-- A call that stands in the list after the calls `before`, and is taken.
+abbrev pub Stands : Call → List Call → List Call → Type 0
+Stands c before calls = (rest : List Call) × (calls ≡ before ++ (c ∷ rest))
+
+abbrev pub Taken : Setting → Call → List Call → Type 0
+Taken s c before = answers c (state s before (caller c)) .number ≡ 0
+
+-- 01: "The plan is accepted and F is tolerated. .. If d is outside F, it has one value below m". Lent cells are long enough.
+pub record Sound (s : Setting) : Type 0 where
+  pub accepted : judged (s .plan) .number ≡ 0
+  pub tolerable : tolerated (listed (s .plan)) (s .faulty) ≡ true
+  pub word-below : member (s .plan .dealer) (s .faulty) ≡ false → s .word < s .plan .span
+  pub cells-enough : (i : ℕ) → keeper s i ≡ true → cellCount (s .plan .n) ≤ length (s .buffer i)
+
+-- Board i, after the calls `now`, stands in the same run and round as board q after the calls `then`.
+pub record SameRound (s : Setting) (q : ℕ) (then : List Call) (i : ℕ) (now : List Call) : Type 0 where
+  pub run : state s then q .rec .run ≡ state s now i .rec .run
+  pub round : state s then q .rec .round ≡ state s now i .rec .round
+
+-- 01: "what a writing of the sender in that run and round gave earlier in the list".
+pub record Written (s : Setting) (before : List Call) (i q : ℕ) (f : List ℕ) : Type 0 where
+  pub earlier : List Call
+  pub out : List ℕ
+  pub size : ℕ
+  pub stands : Stands (send q out) earlier before
+  pub wrote : answers (send q out) (state s earlier q) ≡ taken (size ∷ [])
+  pub same : SameRound s q earlier i before
+  pub gave : f ≡ take size (sending (state s earlier q) out .out)
+
+-- 01: "was handed in", in the run and round in which board i stands.
+pub record HandedIn (s : Setting) (before : List Call) (i q : ℕ) : Type 0 where
+  pub earlier : List Call
+  pub sent : List ℕ
+  pub stands : Stands (receive i q sent) earlier before
+  pub taken : Taken s (receive i q sent) earlier
+  pub same : SameRound s i earlier i before
+
+pub record Fair (s : Setting) (calls : List Call) : Type 0 where
+  -- calls are made by boards with a record
+  pub callers : (c : Call) (before : List Call) → Stands c before calls → keeper s (caller c) ≡ true
+  -- "each handing in that is taken under the number of a board outside F carries the frame which that board sent this receiver for the
+  -- run and round that it is taken for: d's frame in round 1, else what a writing of the sender in that run and round gave earlier"
+  pub carried : (i q : ℕ) (f : List ℕ) (before : List Call) → Stands (receive i q f) before calls → Taken s (receive i q f) before
+      → member q (s .faulty) ≡ false
+      → (q ≡ s .plan .dealer → f ≡ dealing (s .plan) (s .word) .values) × (q ≢ s .plan .dealer → Written s before i q f)
+  -- "before each closing that is taken, every frame due to that board in that run and round from a board outside F was handed in"
+  pub heard : (i : ℕ) (before : List Call) → Stands (close i) before calls → Taken s (close i) before
+      → (q : ℕ) → member q (s .faulty) ≡ false → due (s .plan) q i (state s before i .rec .round) ≡ true → HandedIn s before i q
+
+unfoldable pub isClosing : Call → Bool
+isClosing (receive i q f) = false
+isClosing (send i out) = false
+isClosing (close i) = true
+isClosing (decide i) = false
+
+-- How many closings of board i were taken.
+unfoldable pub closings : World → ℕ → List Call → ℕ
+closings w i [] = 0
+closings w i (c ∷ cs) = cond (isClosing c && (eqb i (caller c) && eqb (answers c (w i) .number) 0)) 1 0 + closings (step w c) i cs
+
+-- 01: "a board's root after run t is its first cell as its closing of round R in run t left it": that closing, after the calls `before`.
+pub record EndsRun (s : Setting) (t i : ℕ) (before calls : List Call) : Type 0 where
+  pub stands : Stands (close i) before calls
+  pub taken : Taken s (close i) before
+  pub run : state s before i .rec .run .0 ≡ t
+  pub round : state s before i .rec .round ≡ rounds (s .plan)
+
+-- Board i as its closing after the calls `before` left it: its root and its list.
+unfoldable pub root : Setting → ℕ → List Call → ℕ
+root s i before = getD (closing (state s before i) .board .cells) 0 blank
+
+unfoldable pub list : Setting → ℕ → List Call → ℕ
+list s i before = closing (state s before i) .board .rec .detected
+
+-- Does board r stand on the list of every board outside F that keeps cells?
+unfoldable pub onEvery : Setting → (ℕ → List Call) → ℕ → Bool
+onEvery s before r = not (any (λ i. keeper s i && not (member r (list s i (before i)))) (s .plan .n))
+
+-- 01: "After every fair list, for every such F, whatever its boards send".
+pub record Agreement (s : Setting) (calls : List Call) : Type 0 where
+  -- "every list of a board outside F lies within F"
+  pub sound : (i : ℕ) → keeper s i ≡ true → within (state s calls i .rec .detected) (s .faulty) ≡ true
+  -- "a board outside F that keeps cells is decided exactly when as many of its closings were taken as the plan has rounds over all runs"
+  pub decided : (i : ℕ) → keeper s i ≡ true → (state s calls i .rec .decided ≡ true) ↔ (closings (begun s) i calls ≡ steps (s .plan))
+  -- "and until then none of its closings is turned down"
+  pub closes : (i : ℕ) (before : List Call) → Stands (close i) before calls → closings (begun s) i before < steps (s .plan) → Taken s (close i) before
+  -- "All decisions read by boards outside F .. are equal"
+  pub equal : (i j : ℕ) (before before′ : List Call) (v v′ : ℕ) → Stands (decide i) before calls → Stands (decide j) before′ calls
+      → answers (decide i) (state s before i) ≡ taken (v ∷ []) → answers (decide j) (state s before′ j) ≡ taken (v′ ∷ []) → v ≡ v′
+  -- "and d's if d is outside F"
+  pub dealers : member (s .plan .dealer) (s .faulty) ≡ false
+      → (i : ℕ) (before : List Call) (v : ℕ) → Stands (decide i) before calls → answers (decide i) (state s before i) ≡ taken (v ∷ []) → v ≡ s .word
+  -- "Once all boards outside F that keep cells have closed run t of a cut tree, with roots after it not all equal, at least t × (b − 3) + 1
+  -- boards stand on every one of their lists, as those closings left them."
+  pub bound : isCut (s .plan) ≡ true → (t : ℕ) (before : ℕ → List Call) → ((i : ℕ) → keeper s i ≡ true → EndsRun s t i (before i) calls)
+      → (i j : ℕ) → keeper s i ≡ true → keeper s j ≡ true → root s i (before i) ≢ root s j (before j)
+      → t * (s .plan .depth - 3) + 1 ≤ count (onEvery s before) (s .plan .n)
+
+-- Demand 3.
+abbrev pub Demand3 : Type 0
+Demand3 = (s : Setting) (calls : List Call) → Sound s → Fair s calls → Agreement s calls

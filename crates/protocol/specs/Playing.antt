@@ -1,0 +1,95 @@
+-- Playing a sheet: every byte of output and cells.
+use Prim.Native.Nat.{ℕ, zero, suc, _+_, _*_, _/_, _%_}
+use mathlib.Core.Bool.{_&&_, _||_, cond}
+use mathlib.Core.List.{List, [], _∷_, _++_}
+use mathlib.Core.Option.{Option, some, none}
+use lib.Dec.{eqb, ltb}
+use lib.ListN.{length, take, drop}
+use Rattle.sets.specs.Sets.{member}
+use Rattle.plan.specs.Schedule.{steps, stepRun, stepRound}
+use Rattle.plan.specs.Outcome.{Outcome, taken, refused}
+use Rattle.tree.specs.Places.{cellCount}
+use Rattle.protocol.specs.Session.{Adversary, Setting, Boards, boardAt, session}
+use Rattle.protocol.specs.Sheet.{Head, Frame, headPlan, wrongAt, reading}
+
+-- The values of the sheet's frame for a run, a round, a sender and a receiver, if it has one.
+unfoldable pub findFrame : ℕ → ℕ → ℕ → ℕ → List Frame → Option (List ℕ)
+findFrame t k q i [] = none
+findFrame t k q i (f ∷ fs) =
+    let rest = findFrame t k q i fs in
+    cond ((eqb (f .run) t && eqb (f .round) k) && (eqb (f .sender) q && eqb (f .receiver) i)) (some (f .values)) rest
+
+-- What the faulty boards do: step j, from 0, is round number j + 1 over all runs.
+unfoldable pub sheetAdversary : Head → List Frame → Adversary
+sheetAdversary h fs i j q = let p = headPlan h in findFrame (stepRun p (suc j) .0) (stepRound p (suc j) .0) q i fs
+
+-- 01: "Board i's part starts at i times the cells for n".
+unfoldable pub part : ℕ → ℕ → List ℕ → List ℕ
+part n i cells = take (cellCount n) (drop (i * cellCount n) cells)
+
+unfoldable pub replacePart : ℕ → ℕ → List ℕ → List ℕ → List ℕ
+replacePart n i new cells = take (i * cellCount n) cells ++ (new ++ drop (i * cellCount n + cellCount n) cells)
+
+unfoldable pub setting : Head → List ℕ → Setting
+setting h cells = record { plan = headPlan h; faulty = h .faulty; word = h .word; buffer = λ i. part (h .n) i cells }
+
+-- All boards at the end.
+unfoldable pub finalBoards : Head → List Frame → List ℕ → Boards
+finalBoards h fs cells = session (setting h cells) (sheetAdversary h fs) (steps (headPlan h))
+
+-- A byte as two digits.
+unfoldable pub hexDigit : ℕ → ℕ
+hexDigit x = cond (ltb x 10) (48 + x) (55 + x)
+
+unfoldable pub hexByte : ℕ → List ℕ → List ℕ
+hexByte x rest = hexDigit (x / 16) ∷ hexDigit (x % 16) ∷ rest
+
+-- 01: "prints for each board outside F, rising: board, decision, list as a set".
+unfoldable pub printed : ℕ → ℕ → ℕ → List ℕ → List ℕ
+printed i decision detected rest = hexByte i (hexByte decision (hexByte detected (10 ∷ rest)))
+
+-- The line of board i: the dealer's has its value and an empty list.
+unfoldable pub boardLine : Head → Boards → ℕ → List ℕ → List ℕ
+boardLine h w i rest =
+    let b = boardAt w i in
+    cond (member i (h .faulty)) rest
+    (cond (eqb i (h .dealer)) (printed i (h .word) 0 rest) (printed i (b .rec .decision) (b .rec .detected) rest))
+
+-- The lines of the boards i to i + k - 1.
+unfoldable pub printBoards : Head → Boards → ℕ → ℕ → List ℕ
+printBoards h w i zero = []
+printBoards h w i (suc k) = boardLine h w i (printBoards h w (suc i) k)
+
+-- 01: the parts of d and of F, and what lies past part n − 1, are not touched.
+unfoldable pub finalCells : Head → Boards → ℕ → List ℕ → List ℕ
+finalCells h w zero cells = cells
+finalCells h w (suc k) cells =
+    let rest = finalCells h w k cells in
+    let new = replacePart (h .n) k (boardAt w k .cells) rest in
+    cond (member k (h .faulty) || eqb k (h .dealer)) rest new
+
+-- What playing leaves: the answer, the cells and the output.
+pub record Play : Type 0 where
+  pub answer : Outcome
+  pub cells : List ℕ
+  pub out : List ℕ
+
+unfoldable pub refusedPlay : Outcome → List ℕ → List ℕ → Play
+refusedPlay o cells out = record { answer = o; cells = cells; out = out }
+
+-- An accepted sheet.
+unfoldable pub playHead : Head → List Frame → List ℕ → List ℕ → Play
+playHead h fs cells out =
+    let w = finalBoards h fs cells in
+    let text = printBoards h w 0 (h .n) in
+    record { answer = taken (length text ∷ []); cells = finalCells h w (h .n) cells; out = text ++ drop (length text) out }
+
+-- 01, 'Playing a sheet': 20, 17, 11, then line by line. Values of a refusal begin with its line, 0 if it is no line's.
+unfoldable pub playing : List ℕ → List ℕ → List ℕ → Play
+playing text cells out =
+    let r = reading text in
+    let accepted = playHead (r .head) (r .frames) cells out in
+    cond (ltb 65536 (length text)) (refusedPlay (wrongAt 0 (refused 20)) cells out)
+    (cond (ltb (length out) 49) (refusedPlay (wrongAt 0 (refused 17)) cells out)
+    (cond (ltb (length cells) 13699) (refusedPlay (wrongAt 0 (refused 11)) cells out)
+    (cond (eqb (r .answer .number) 0) accepted (refusedPlay (r .answer) cells out))))

@@ -1,0 +1,66 @@
+-- The synchronous session: in each step every board hears all frames of the round and closes it.
+use Prim.Native.Nat.{ℕ, zero, suc}
+use mathlib.Core.Bool.{cond}
+use mathlib.Core.List.{List, [], _∷_}
+use mathlib.Core.Option.{Option, some, none}
+use lib.Dec.{eqb}
+use lib.ListN.{getD}
+use Rattle.sets.specs.Sets.{member}
+use Rattle.plan.specs.declared.plan.Plan.{Plan}
+use Rattle.protocol.specs.Rounds.{Board}
+use Rattle.protocol.specs.Calls.{voidRecord, beginning, receiving, frameOf, closing, dealing}
+
+-- f at the numbers i to i + k - 1.
+unfoldable pub table : {A : Type 0} → (ℕ → A) → ℕ → ℕ → List A
+table f i zero = []
+table f i (suc k) = f i ∷ table f (suc i) k
+
+-- What a faulty board hands in: to board i in step j, from board q; nothing, or any bytes.
+abbrev pub Adversary : Type 0
+Adversary = ℕ → ℕ → ℕ → Option (List ℕ)
+
+-- What a session is played on: the plan, the faulty boards, the dealer's value, and each board's lent cells.
+pub record Setting : Type 0 where
+  pub plan : Plan
+  pub faulty : ℕ
+  pub word : ℕ
+  pub buffer : ℕ → List ℕ
+
+-- All boards, by number.
+abbrev pub Boards : Type 0
+Boards = List Board
+
+unfoldable pub nobody : Board
+nobody = record { rec = voidRecord; cells = [] }
+
+unfoldable pub boardAt : Boards → ℕ → Board
+boardAt w i = getD w i nobody
+
+unfoldable pub begun : Setting → ℕ → Board
+begun s i = beginning (s .plan) i (s .buffer i) .board
+
+-- What board i hears from board q in step j, when all boards stand at w.
+unfoldable pub hears : Setting → Adversary → Boards → ℕ → ℕ → ℕ → Option (List ℕ)
+hears s a w i j q =
+    cond (member q (s .faulty)) (a i j q)
+    (cond (eqb q (s .plan .dealer)) (some (dealing (s .plan) (s .word) .values)) (some (frameOf (boardAt w q))))
+
+unfoldable pub handIn : ℕ → Option (List ℕ) → Board → Board
+handIn q none b = b
+handIn q (some f) b = receiving b q f .board
+
+-- Board i with what it hears from the boards below k.
+unfoldable pub hearAll : Setting → Adversary → Boards → ℕ → ℕ → ℕ → Board
+hearAll s a w i j zero = boardAt w i
+hearAll s a w i j (suc k) = handIn k (hears s a w i j k) (hearAll s a w i j k)
+
+-- All boards after j steps. Past the last step closing is refused and nothing changes.
+unfoldable pub session : Setting → Adversary → ℕ → Boards
+session s a zero = table (begun s) 0 (s .plan .n)
+session s a (suc j) =
+    let w = session s a j in
+    table (λ i. closing (hearAll s a w i j (s .plan .n)) .board) 0 (s .plan .n)
+
+-- Board i after j steps.
+unfoldable pub at : Setting → Adversary → ℕ → ℕ → Board
+at s a j i = boardAt (session s a j) i

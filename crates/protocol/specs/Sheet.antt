@@ -1,0 +1,166 @@
+-- A sheet as text: lines, the head, the frames, and the number and line of the first thing that is wrong.
+use Prim.Native.Nat.{ℕ, suc, _+_, _-_, _*_}
+use mathlib.Core.Bool.{Bool, true, false, not, _&&_, _||_, cond}
+use mathlib.Core.List.{List, [], _∷_}
+use mathlib.Core.Option.{Option, some, none}
+use lib.Dec.{eqb, leb, ltb}
+use lib.ListN.{length, getD, take, drop}
+use Rattle.sets.specs.Sets.{member, within, boards}
+use Rattle.sets.specs.Structure.{tolerated}
+use Rattle.plan.specs.declared.plan.Plan.{Plan}
+use Rattle.plan.specs.Schedule.{hasRound}
+use Rattle.plan.specs.Outcome.{Outcome, taken, refused}
+use Rattle.plan.specs.Calls.{andThen, planning, planned}
+use Rattle.protocol.specs.Nodes.{due}
+
+-- A line, and whether a newline ends it.
+pub record Line : Type 0 where
+  pub text : List ℕ
+  pub ended : Bool
+
+unfoldable pub prepend : ℕ → List Line → List Line
+prepend c [] = record { text = c ∷ []; ended = false } ∷ []
+prepend c (l ∷ ls) = record { text = c ∷ l .text; ended = l .ended } ∷ ls
+
+-- 01: "each ended by a newline (0A)". Text after the last newline is a line too; nothing after it is none.
+unfoldable pub lines : List ℕ → List Line
+lines [] = []
+lines (c ∷ cs) =
+    let rest = lines cs in
+    let opened : List Line = record { text = []; ended = true } ∷ rest in
+    cond (eqb c 10) opened (prepend c rest)
+
+-- 01: "uppercase hexadecimal, two digits a byte".
+unfoldable pub digit : ℕ → Option ℕ
+digit c = cond (leb 48 c && leb c 57) (some (c - 48)) (cond (leb 65 c && leb c 70) (some (c - 55)) none)
+
+unfoldable pub joinByte : Option ℕ → Option ℕ → Option (List ℕ) → Option (List ℕ)
+joinByte none lo rest = none
+joinByte (some h) none rest = none
+joinByte (some h) (some l) none = none
+joinByte (some h) (some l) (some bytes) = some ((h * 16 + l) ∷ bytes)
+
+-- The bytes of a line's digits; none for another character or an odd digit count.
+unfoldable pub bytesOf : List ℕ → Option (List ℕ)
+bytesOf [] = some []
+bytesOf (c ∷ []) = none
+bytesOf (c ∷ (e ∷ cs)) = joinByte (digit c) (digit e) (bytesOf cs)
+
+-- Number 21: the bytes of a line, none if it applies.
+unfoldable pub lineBytes : Line → Option (List ℕ)
+lineBytes l = let bytes = bytesOf (l .text) in cond (l .ended) bytes none
+
+-- 01: "The head is n, m, d, b, the dealer's value, s, then s sets, then F".
+pub record Head : Type 0 where
+  pub n : ℕ
+  pub span : ℕ
+  pub dealer : ℕ
+  pub depth : ℕ
+  pub word : ℕ
+  pub count : ℕ
+  pub sets : List ℕ
+  pub faulty : ℕ
+
+unfoldable pub headOf : List ℕ → Head
+headOf bytes =
+    let s = getD bytes 5 0 in
+    record {
+      n = getD bytes 0 0;
+      span = getD bytes 1 0;
+      dealer = getD bytes 2 0;
+      depth = getD bytes 3 0;
+      word = getD bytes 4 0;
+      count = s;
+      sets = take s (drop 6 bytes);
+      faulty = getD bytes (6 + s) 0;
+    }
+
+unfoldable pub headPlan : Head → Plan
+headPlan h = planned (h .n) (h .sets) (h .dealer) (h .span) (h .depth)
+
+-- 01, 'Playing a sheet', head: 22; 1 to 8; 18; 23.
+unfoldable pub judgeHead : List ℕ → Outcome
+judgeHead bytes =
+    let h = headOf bytes in
+    let word = cond (leb (h .span) (h .word)) (refused 18) (taken []) in
+    let faulty = cond (within (h .faulty) (boards (h .n)) && tolerated (h .sets) (h .faulty)) (taken []) (refused 23) in
+    cond (ltb (length bytes) 7 || not (eqb (length bytes) (7 + h .count))) (refused 22)
+    (andThen (planning (h .n) (h .count) (h .sets) (h .dealer) (h .span) (h .depth)) (andThen word faulty))
+
+-- 01: "Then one frame a line: run, round, sender, receiver, values".
+pub record Frame : Type 0 where
+  pub run : ℕ
+  pub round : ℕ
+  pub sender : ℕ
+  pub receiver : ℕ
+  pub values : List ℕ
+
+unfoldable pub frameLine : List ℕ → Frame
+frameLine bytes = record {
+  run = getD bytes 0 0;
+  round = getD bytes 1 0;
+  sender = getD bytes 2 0;
+  receiver = getD bytes 3 0;
+  values = drop 4 bytes;
+}
+
+-- 01: "Lines rise strictly by (run, round, sender, receiver)."
+unfoldable pub earlier : ℕ → ℕ → Bool → Bool
+earlier a b next = ltb a b || (eqb a b && next)
+
+unfoldable pub rises : Option Frame → Frame → Bool
+rises none g = true
+rises (some f) g =
+    earlier (f .run) (g .run) (earlier (f .round) (g .round) (earlier (f .sender) (g .sender) (ltb (f .receiver) (g .receiver))))
+
+-- Number 24: "under four bytes, not rising, sender not in F, receiver in F or d or not below n, or no frame due from that sender then".
+unfoldable pub goodFrame : Head → Option Frame → List ℕ → Bool
+goodFrame h before bytes =
+    let p = headPlan h in
+    let f = frameLine bytes in
+    (leb 4 (length bytes) && (rises before f && member (f .sender) (h .faulty)))
+    && ((not (member (f .receiver) (h .faulty)) && hasRound p (record { 0 = f .run }) (record { 0 = f .round }))
+    && due p (f .sender) (f .receiver) (record { 0 = f .round }))
+
+-- A sheet that was read: the answer, whose values for a refusal begin with the line; the head and the frames.
+pub record Reading : Type 0 where
+  pub answer : Outcome
+  pub head : Head
+  pub frames : List Frame
+
+-- A refusal at a line.
+unfoldable pub wrongAt : ℕ → Outcome → Outcome
+wrongAt line o = record { number = o .number; values = line ∷ o .values }
+
+unfoldable pub refusedReading : Head → ℕ → Outcome → Reading
+refusedReading h line o = record { answer = wrongAt line o; head = h; frames = [] }
+
+unfoldable pub addFrame : Frame → Reading → Reading
+addFrame f r = record { answer = r .answer; head = r .head; frames = f ∷ r .frames }
+
+-- The frame lines from line number `line` on.
+unfoldable pub readFrames : Head → Option Frame → ℕ → List Line → Reading
+readFrames h before line [] = record { answer = taken []; head = h; frames = [] }
+readFrames h before line (l ∷ ls) =
+    elim (lineBytes l) [
+      | none ↦ refusedReading h line (refused 21)
+      | some bytes ↦
+          elim (goodFrame h before bytes) [
+            | true ↦ addFrame (frameLine bytes) (readFrames h (some (frameLine bytes)) (suc line) ls)
+            | false ↦ refusedReading h line (refused 24)
+          ]
+    ]
+
+unfoldable pub readHead : List ℕ → List Line → Reading
+readHead bytes ls =
+    let h = headOf bytes in
+    let o = judgeHead bytes in
+    elim (eqb (o .number) 0) [ true ↦ readFrames h none 2 ls | false ↦ refusedReading h 1 o ]
+
+-- The whole sheet, line by line. An empty sheet is number 22 at line 1.
+unfoldable pub readLines : List Line → Reading
+readLines [] = refusedReading (headOf []) 1 (refused 22)
+readLines (l ∷ ls) = elim (lineBytes l) [ none ↦ refusedReading (headOf []) 1 (refused 21) | some bytes ↦ readHead bytes ls ]
+
+unfoldable pub reading : List ℕ → Reading
+reading text = readLines (lines text)

@@ -1,0 +1,20 @@
+// The record of a board.
+use plan::plan::Plan;
+use plan::schedule::Round;
+use plan::schedule::Run;
+
+pub struct Record {
+    pub plan: Plan,
+    // The board's own number.
+    pub board: u8,
+    // Where it stands.
+    pub run: Run,
+    pub round: Round,
+    // The boards that it has detected to be faulty, its list.
+    pub detected: u8,
+    // The senders whose frame was taken this round.
+    pub taken: u8,
+    pub decided: bool,
+    // 0 while it is not decided.
+    pub decision: u8,
+}
