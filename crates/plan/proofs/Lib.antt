@@ -5,3 +5,4 @@ pub mod Levels
 pub mod HasRound
 pub mod Height
 pub mod Steps
+pub mod Injective

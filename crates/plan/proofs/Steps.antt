@@ -14,7 +14,7 @@ use Rattle.plan.specs.declared.schedule.Round.{Round}
 use Rattle.plan.specs.Schedule.{listed, isCut, rounds, runs, firstRound, hasRound, steps, step, stepRun, stepRound, ceilDiv}
 use Rattle.plan.specs.Calls.{judged, isDepth}
 use Rattle.sets.proofs.Tests.{cases, and-l, and-r, and-true, or-true}
-use Rattle.plan.proofs.Levels.{rounds-pos, runs-pos, runs-cut, cut-depth, ceil-enough}
+use Rattle.plan.proofs.Levels.{rounds-pos, runs-pos, rounds-cut, runs-cut, runs-full, cut-depth, ceil-enough}
 use Rattle.plan.proofs.Outcomes.{accepted}
 
 -- Round k of run t is one of the plan's.
@@ -214,15 +214,26 @@ module _ (p : Plan) where
           (λ b. let ne : l .0 ≢ k .0 = eqb-false (l .0) (k .0) b in
           let back = step-earlier u l t k g h (inr (sym same, omega arith)) in omega arith)
 
--- A cut tree has runs enough: n ≤ (T - 1)(b - 3) + 3.
-pub runs-enough : (p : Plan) → judged p .number ≡ 0 → isCut p ≡ true → p .n ≤ (runs p .0 - 1) * (p .depth - 3) + 3
+-- A cut tree of an accepted plan has four levels or more.
+pub cut-four : (p : Plan) → judged p .number ≡ 0 → isCut p ≡ true → 4 ≤ p .depth
 unfolding judged isDepth
-runs-enough p e cut =
-    let a = accepted (p .n) (p .count) (listed p) (p .dealer) (p .span) (p .depth) e in
-    let four : 4 ≤ p .depth =
+cut-four p e cut =
     ⊎-elim
     (λ z. let zero : p .depth ≡ 0 = eqb-true (p .depth) 0 z in absurd (omega (arith, cut-depth p cut)))
     (λ z. leb-true 4 (p .depth) (and-l (leb 4 (p .depth)) (leb (p .depth) 7) z))
-    (or-true (eqb (p .depth) 0) (leb 4 (p .depth) && leb (p .depth) 7) (a .depth-good)) in
+    (or-true (eqb (p .depth) 0) (leb 4 (p .depth) && leb (p .depth) 7)
+    (accepted (p .n) (p .count) (listed p) (p .dealer) (p .span) (p .depth) e .depth-good))
+
+-- A cut tree has runs enough: n ≤ (T - 1)(b - 3) + 3.
+pub runs-enough : (p : Plan) → judged p .number ≡ 0 → isCut p ≡ true → p .n ≤ (runs p .0 - 1) * (p .depth - 3) + 3
+runs-enough p e cut =
+    let four = cut-four p e cut in
     let t : runs p .0 - 1 ≡ ceilDiv (p .n - 3) (p .depth - 3) = omega (arith, ap (λ (x : Run). x .0) (runs-cut p cut)) in
     rw t (omega (arith, ceil-enough (p .n - 3) (p .depth - 3) (omega arith)))
+
+-- Where there is a second run, it has a round.
+pub later-rounds : (p : Plan) → judged p .number ≡ 0 → 1 < runs p .0 → 2 ≤ rounds p .0
+later-rounds p e l =
+    cases (isCut p)
+    (λ c. omega (arith, ap (λ (x : Round). x .0) (rounds-cut p c), cut-four p e c))
+    (λ c. absurd (omega (arith, ap (λ (x : Run). x .0) (runs-full p c))))

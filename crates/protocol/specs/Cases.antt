@@ -25,11 +25,11 @@ pub data Row : Type 0 where
   -- m, a value handed in: what is stored
   stored : ℕ → ℕ → ℕ → Row
 
-unfoldable pub same : List ℕ → List ℕ → Bool
-same [] [] = true
-same [] (y ∷ ys) = false
-same (x ∷ xs) [] = false
-same (x ∷ xs) (y ∷ ys) = eqb x y && same xs ys
+unfoldable pub sameList : List ℕ → List ℕ → Bool
+sameList [] [] = true
+sameList [] (y ∷ ys) = false
+sameList (x ∷ xs) [] = false
+sameList (x ∷ xs) (y ∷ ys) = eqb x y && sameList xs ys
 
 -- The nodes of levels 1 to k.
 unfoldable pub nodeCount : Plan → ℕ → ℕ
@@ -45,12 +45,12 @@ lentOut = replicate 49 9
 
 unfoldable pub played : Play → List ℕ → List ℕ → Bool
 played r text cells =
-    (eqb (r .answer .number) 0 && same (r .answer .values) (length text ∷ []))
-    && (same (r .out) (text ++ replicate (49 - length text) 9) && same (r .cells) (cells ++ replicate (13699 - length cells) 7))
+    (eqb (r .answer .number) 0 && sameList (r .answer .values) (length text ∷ []))
+    && (sameList (r .out) (text ++ replicate (49 - length text) 9) && sameList (r .cells) (cells ++ replicate (13699 - length cells) 7))
 
 -- Does a row hold?
 unfoldable pub holds : Row → Bool
-holds (admit n sets k vs) = let o = admitting n (length sets) sets in eqb (o .number) k && same (o .values) vs
+holds (admit n sets k vs) = let o = admitting n (length sets) sets in eqb (o .number) k && sameList (o .values) vs
 holds (refuse n sets d m b k) = eqb (planning n (length sets) sets d m b .number) k
 holds (schedule n sets d b h t j) =
     let p = planned n sets d 16 b in

@@ -1,11 +1,12 @@
 -- Resolving, and the rules by which a board detects faulty boards.
 use Prim.Native.Nat.{ℕ, zero, suc, _-_}
-use mathlib.Core.Bool.{Bool, true, false, not, _&&_, _||_, cond}
+use mathlib.Core.Bool.{Bool, not, _&&_, _||_, cond}
 use mathlib.Core.List.{List, [], _∷_}
 use mathlib.Core.Option.{Option, some, none, Option·getD}
-use lib.Dec.{eqb, leb, ltb}
+use lib.Dec.{eqb}
 use lib.ListN.{length, getD}
-use Rattle.sets.specs.Search.{first, any}
+use Rattle.sets.specs.Search.{any}
+use Rattle.sets.specs.Only.{only, same}
 use Rattle.sets.specs.Sets.{member, insert, setOf}
 use Rattle.sets.specs.Structure.{tolerated}
 use Rattle.plan.specs.declared.plan.Plan.{Plan}
@@ -14,23 +15,10 @@ use Rattle.tree.specs.Labels.{Label, occurs, last}
 use Rattle.tree.specs.Cells.{store}
 use Rattle.protocol.specs.Nodes.{default, read, internal, nodes, inner}
 
--- What a child is worth: a value, or none.
-unfoldable pub is : ℕ → Option ℕ → Bool
-is v none = false
-is v (some x) = eqb x v
-
--- The only number below k that passes the test; none if there is none or more than one.
-unfoldable pub only : (ℕ → Bool) → ℕ → Option ℕ
-only f k =
-    let i = first f k 0 in
-    let j = first f (k - suc i) (suc i) in
-    let found = some i in
-    cond (ltb i k && leb k j) found none
-
 -- 01: "the only value v below m for which the children resolved to v form a set that is not tolerated"; f has what each child
--- of α is worth.
+-- of α is worth: a value, or none.
 unfoldable pub vote : Plan → Label → (ℕ → Option ℕ) → Option ℕ
-vote p α f = only (λ v. not (tolerated (listed p) (setOf (λ c. not (occurs c α) && is v (f c)) (p .n)))) (p .span)
+vote p α f = only (λ v. not (tolerated (listed p) (setOf (λ c. not (occurs c α) && same (f c) (some v)) (p .n)))) (p .span)
 
 -- f at the boards 0 to k - 1, rising.
 unfoldable pub tabulate : (ℕ → Option ℕ) → ℕ → ℕ → List (Option ℕ)
@@ -42,12 +30,10 @@ tabulate f i (suc k) = f i ∷ tabulate f (suc i) k
 unfoldable pub resolve : Plan → ℕ → List ℕ → ℕ → Label → Option ℕ
 resolve p i cells zero α = some (read p cells α)
 resolve p i cells (suc left) α =
-    elim (internal p i α) [
-      | true ↦
-          let results = tabulate (λ c. elim (occurs c α) [ true ↦ none | false ↦ resolve p i cells left (c ∷ α) ]) 0 (p .n) in
-          vote p α (λ c. getD results c none)
-      | false ↦ some (read p cells α)
-    ]
+    let child : ℕ → Option ℕ = λ c. let below = resolve p i cells left (c ∷ α) in cond (occurs c α) none below in
+    let results = tabulate child 0 (p .n) in
+    let voted = vote p α (λ c. getD results c none) in
+    cond (internal p i α) voted (some (read p cells α))
 
 -- The root. 01: an unresolved root is 0.
 unfoldable pub resolveRoot : Plan → ℕ → List ℕ → ℕ
@@ -56,7 +42,14 @@ resolveRoot p i cells = Option·getD (resolve p i cells (rounds p .0 - 1) (p .de
 -- 01: a value v below m makes "{children whose cell is not v} ∪ L tolerated"; f has what each child of α is worth.
 unfoldable pub explained : Plan → Label → (ℕ → Option ℕ) → ℕ → Bool
 explained p α f detected =
-    any (λ v. tolerated (listed p) (setOf (λ c. (not (occurs c α) && not (is v (f c))) || member c detected) (p .n))) (p .span)
+    any (λ v. tolerated (listed p) (setOf (λ c. (not (occurs c α) && not (same (f c) (some v))) || member c detected) (p .n))) (p .span)
+
+-- What child c of α is worth by its cell, and by what it resolves to.
+unfoldable pub byCell : Plan → List ℕ → Label → ℕ → Option ℕ
+byCell p cells α c = some (read p cells (c ∷ α))
+
+unfoldable pub byResolving : Plan → ℕ → List ℕ → Label → ℕ → Option ℕ
+byResolving p i cells α c = resolve p i cells (rounds p .0 - suc (length α)) (c ∷ α)
 
 -- Board r joins the list.
 unfoldable pub join : ℕ → ℕ → ℕ
@@ -80,13 +73,11 @@ maskBoard p r (γ ∷ γs) cells = maskBoard p r γs (cond (eqb (last γ) r) (st
 -- the next node is looked at".
 unfoldable pub detect1 : Plan → ℕ → Label → Scan → Scan
 detect1 p i α s =
-    elim (passes p α (λ c. some (read p (s .cells) (c ∷ α))) (s .detected)) [
-      | true ↦ s
-      | false ↦ record {
-        detected = join (last α) (s .detected);
-        cells = maskBoard p (last α) (nodes p i (suc (length α))) (s .cells);
-      }
-    ]
+    let joined : Scan = record {
+      detected = join (last α) (s .detected);
+      cells = maskBoard p (last α) (nodes p i (suc (length α))) (s .cells);
+    } in
+    cond (passes p α (byCell p (s .cells) α) (s .detected)) s joined
 
 unfoldable pub detectAll1 : Plan → ℕ → List Label → Scan → Scan
 detectAll1 p i [] s = s
@@ -95,8 +86,7 @@ detectAll1 p i (α ∷ αs) s = detectAll1 p i αs (detect1 p i α s)
 -- 003: FD2; 01: rule C, "rule G on resolved children, without changing cells".
 unfoldable pub detect2 : Plan → ℕ → List ℕ → Label → ℕ → ℕ
 detect2 p i cells α detected =
-    elim (passes p α (λ c. resolve p i cells (rounds p .0 - suc (length α)) (c ∷ α)) detected)
-    [ true ↦ detected | false ↦ join (last α) detected ]
+    cond (passes p α (byResolving p i cells α) detected) detected (join (last α) detected)
 
 unfoldable pub detectAll2 : Plan → ℕ → List ℕ → List Label → ℕ → ℕ
 detectAll2 p i cells [] detected = detected

@@ -22,29 +22,29 @@ use Rattle.protocol.specs.Session.{Setting, begun}
 -- 01: "Each call in the list is a handing in, a writing, a closing or a reading of the decision by one of the boards with a record."
 -- The first number is that board's; a handing in has the sender's number and a copy of the frame, a writing the lent output.
 pub data Call : Type 0 where
-  receive : ℕ → ℕ → List ℕ → Call
-  send : ℕ → List ℕ → Call
-  close : ℕ → Call
-  decide : ℕ → Call
+  receives : ℕ → ℕ → List ℕ → Call
+  sends : ℕ → List ℕ → Call
+  closes : ℕ → Call
+  decides : ℕ → Call
 
 unfoldable pub caller : Call → ℕ
-caller (receive i q f) = i
-caller (send i out) = i
-caller (close i) = i
-caller (decide i) = i
+caller (receives i q f) = i
+caller (sends i out) = i
+caller (closes i) = i
+caller (decides i) = i
 
 -- What a call does to its board, and what it answers: literally the definitions of the calls.
 unfoldable pub leaves : Call → Board → Board
-leaves (receive i q f) b = receiving b q f .board
-leaves (send i out) b = b
-leaves (close i) b = closing b .board
-leaves (decide i) b = b
+leaves (receives i q f) b = receiving b q f .board
+leaves (sends i out) b = b
+leaves (closes i) b = closing b .board
+leaves (decides i) b = b
 
 unfoldable pub answers : Call → Board → Outcome
-answers (receive i q f) b = receiving b q f .answer
-answers (send i out) b = sending b out .answer
-answers (close i) b = closing b .answer
-answers (decide i) b = deciding (b .rec)
+answers (receives i q f) b = receiving b q f .answer
+answers (sends i out) b = sending b out .answer
+answers (closes i) b = closing b .answer
+answers (decides i) b = deciding (b .rec)
 
 -- 01: "It gets that board's record and cells as that board's call before returned or left them, and nobody else writes them meanwhile."
 abbrev pub World : Type 0
@@ -89,8 +89,8 @@ pub record Written (s : Setting) (before : List Call) (i q : ℕ) (f : List ℕ)
   pub earlier : List Call
   pub out : List ℕ
   pub size : ℕ
-  pub stands : Stands (send q out) earlier before
-  pub wrote : answers (send q out) (state s earlier q) ≡ taken (size ∷ [])
+  pub stands : Stands (sends q out) earlier before
+  pub wrote : answers (sends q out) (state s earlier q) ≡ taken (size ∷ [])
   pub same : SameRound s q earlier i before
   pub gave : f ≡ take size (sending (state s earlier q) out .out)
 
@@ -98,8 +98,8 @@ pub record Written (s : Setting) (before : List Call) (i q : ℕ) (f : List ℕ)
 pub record HandedIn (s : Setting) (before : List Call) (i q : ℕ) : Type 0 where
   pub earlier : List Call
   pub sent : List ℕ
-  pub stands : Stands (receive i q sent) earlier before
-  pub taken : Taken s (receive i q sent) earlier
+  pub stands : Stands (receives i q sent) earlier before
+  pub taken : Taken s (receives i q sent) earlier
   pub same : SameRound s i earlier i before
 
 pub record Fair (s : Setting) (calls : List Call) : Type 0 where
@@ -107,18 +107,18 @@ pub record Fair (s : Setting) (calls : List Call) : Type 0 where
   pub callers : (c : Call) (before : List Call) → Stands c before calls → keeper s (caller c) ≡ true
   -- "each handing in that is taken under the number of a board outside F carries the frame which that board sent this receiver for the
   -- run and round that it is taken for: d's frame in round 1, else what a writing of the sender in that run and round gave earlier"
-  pub carried : (i q : ℕ) (f : List ℕ) (before : List Call) → Stands (receive i q f) before calls → Taken s (receive i q f) before
+  pub carried : (i q : ℕ) (f : List ℕ) (before : List Call) → Stands (receives i q f) before calls → Taken s (receives i q f) before
       → member q (s .faulty) ≡ false
       → (q ≡ s .plan .dealer → f ≡ dealing (s .plan) (s .word) .values) × (q ≢ s .plan .dealer → Written s before i q f)
   -- "before each closing that is taken, every frame due to that board in that run and round from a board outside F was handed in"
-  pub heard : (i : ℕ) (before : List Call) → Stands (close i) before calls → Taken s (close i) before
+  pub heard : (i : ℕ) (before : List Call) → Stands (closes i) before calls → Taken s (closes i) before
       → (q : ℕ) → member q (s .faulty) ≡ false → due (s .plan) q i (state s before i .rec .round) ≡ true → HandedIn s before i q
 
 unfoldable pub isClosing : Call → Bool
-isClosing (receive i q f) = false
-isClosing (send i out) = false
-isClosing (close i) = true
-isClosing (decide i) = false
+isClosing (receives i q f) = false
+isClosing (sends i out) = false
+isClosing (closes i) = true
+isClosing (decides i) = false
 
 -- How many closings of board i were taken.
 unfoldable pub closings : World → ℕ → List Call → ℕ
@@ -127,8 +127,8 @@ closings w i (c ∷ cs) = cond (isClosing c && (eqb i (caller c) && eqb (answers
 
 -- 01: "a board's root after run t is its first cell as its closing of round R in run t left it": that closing, after the calls `before`.
 pub record EndsRun (s : Setting) (t i : ℕ) (before calls : List Call) : Type 0 where
-  pub stands : Stands (close i) before calls
-  pub taken : Taken s (close i) before
+  pub stands : Stands (closes i) before calls
+  pub taken : Taken s (closes i) before
   pub run : state s before i .rec .run .0 ≡ t
   pub round : state s before i .rec .round ≡ rounds (s .plan)
 
@@ -150,13 +150,13 @@ pub record Agreement (s : Setting) (calls : List Call) : Type 0 where
   -- "a board outside F that keeps cells is decided exactly when as many of its closings were taken as the plan has rounds over all runs"
   pub decided : (i : ℕ) → keeper s i ≡ true → (state s calls i .rec .decided ≡ true) ↔ (closings (begun s) i calls ≡ steps (s .plan))
   -- "and until then none of its closings is turned down"
-  pub closes : (i : ℕ) (before : List Call) → Stands (close i) before calls → closings (begun s) i before < steps (s .plan) → Taken s (close i) before
+  pub until : (i : ℕ) (before : List Call) → Stands (closes i) before calls → closings (begun s) i before < steps (s .plan) → Taken s (closes i) before
   -- "All decisions read by boards outside F .. are equal"
-  pub equal : (i j : ℕ) (before before′ : List Call) (v v′ : ℕ) → Stands (decide i) before calls → Stands (decide j) before′ calls
-      → answers (decide i) (state s before i) ≡ taken (v ∷ []) → answers (decide j) (state s before′ j) ≡ taken (v′ ∷ []) → v ≡ v′
+  pub equal : (i j : ℕ) (before before′ : List Call) (v v′ : ℕ) → Stands (decides i) before calls → Stands (decides j) before′ calls
+      → answers (decides i) (state s before i) ≡ taken (v ∷ []) → answers (decides j) (state s before′ j) ≡ taken (v′ ∷ []) → v ≡ v′
   -- "and d's if d is outside F"
   pub dealers : member (s .plan .dealer) (s .faulty) ≡ false
-      → (i : ℕ) (before : List Call) (v : ℕ) → Stands (decide i) before calls → answers (decide i) (state s before i) ≡ taken (v ∷ []) → v ≡ s .word
+      → (i : ℕ) (before : List Call) (v : ℕ) → Stands (decides i) before calls → answers (decides i) (state s before i) ≡ taken (v ∷ []) → v ≡ s .word
   -- "Once all boards outside F that keep cells have closed run t of a cut tree, with roots after it not all equal, at least t × (b − 3) + 1
   -- boards stand on every one of their lists, as those closings left them."
   pub bound : isCut (s .plan) ≡ true → (t : ℕ) (before : ℕ → List Call) → ((i : ℕ) → keeper s i ≡ true → EndsRun s t i (before i) calls)

@@ -1,6 +1,6 @@
 -- Values, nodes, and what a board sends in a round.
 use Prim.Native.Nat.{ℕ, zero, suc, _-_}
-use mathlib.Core.Bool.{Bool, true, false, not, _&&_, cond}
+use mathlib.Core.Bool.{Bool, not, _&&_, cond}
 use mathlib.Core.List.{List, [], _∷_, map}
 use lib.Dec.{eqb, ltb}
 use lib.ListN.{length}
@@ -46,10 +46,8 @@ inner p i k = filter (internal p i) (nodes p i k)
 -- in cell order". In round 1 the dealer sends one value, for the empty label, whose child by the dealer is the root.
 unfoldable pub sent : Plan → ℕ → ℕ → Round → List Label
 sent p q i k =
-    elim (eqb (k .0) 1) [
-      | true ↦ cond (eqb q (p .dealer)) ([] ∷ []) []
-      | false ↦ filter (λ α. not (occurs q α)) (inner p i (k .0 - 1))
-    ]
+    let later = filter (λ α. not (occurs q α)) (inner p i (k .0 - 1)) in
+    cond (eqb (k .0) 1) (cond (eqb q (p .dealer)) ([] ∷ []) []) later
 
 -- 01: "A frame is due only if it holds at least one byte." From board q to board i, which keeps cells, in round k.
 unfoldable pub due : Plan → ℕ → ℕ → Round → Bool

@@ -1,6 +1,6 @@
 -- What happens to a board's record and cells in a round, when no call is turned down.
 use Prim.Native.Nat.{ℕ, zero, suc, _+_, _-_}
-use mathlib.Core.Bool.{true, false, not, _&&_, cond}
+use mathlib.Core.Bool.{false, not, _&&_, cond}
 use mathlib.Core.List.{List, [], _∷_, _++_}
 use lib.Dec.{eqb, ltb}
 use lib.ListN.{length, drop, replicate}
@@ -112,4 +112,6 @@ convert r s =
 unfoldable pub close : Board → Board
 close b =
     let s = gather b in
-    elim (ltb (b .rec .round .0) (rounds (b .rec .plan) .0)) [ true ↦ nextRound (b .rec) s | false ↦ convert (b .rec) s ]
+    let next = nextRound (b .rec) s in
+    let ended = convert (b .rec) s in
+    cond (ltb (b .rec .round .0) (rounds (b .rec .plan) .0)) next ended

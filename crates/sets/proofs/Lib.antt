@@ -3,3 +3,4 @@ pub mod Search
 pub mod Count
 pub mod Member
 pub mod Tolerated
+pub mod Only

@@ -1,3 +1,4 @@
 pub mod Search
 pub mod Sets
 pub mod Structure
+pub mod Only

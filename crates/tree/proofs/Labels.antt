@@ -39,7 +39,7 @@ child-from α i (suc k) q l h a =
     let r : List·Memᴰ (q ∷ α) (childrenFrom α (suc i) k) = child-from α (suc i) k q (omega arith) (omega arith) a in
     cases (occurs i α) (λ x. rw x r) (λ x. rw x (List·Memᴰ·tail r)))
 
-of-child : (n : ℕ) (αs : List Label) (γ : Label) → List·Memᴰ γ (childrenOf n αs) → (α : Label) × List·Memᴰ α αs × ChildBelow n α γ
+pub of-child : (n : ℕ) (αs : List Label) (γ : Label) → List·Memᴰ γ (childrenOf n αs) → (α : Label) × List·Memᴰ α αs × ChildBelow n α γ
 unfolding childrenOf children
 of-child n [] γ m = absurd (List·Memᴰ·not-nil m)
 of-child n (α ∷ αs) γ m =
@@ -48,7 +48,7 @@ of-child n (α ∷ αs) γ m =
     (λ m′. let (β, w, r) = of-child n αs γ m′ in (β, List·Memᴰ·tail w, r))
     (List·Memᴰ·append-cases (childrenFrom α 0 n) m)
 
-child-of : (n : ℕ) (αs : List Label) (α : Label) (q : ℕ) → List·Memᴰ α αs → q < n → occurs q α ≡ false → List·Memᴰ (q ∷ α) (childrenOf n αs)
+pub child-of : (n : ℕ) (αs : List Label) (α : Label) (q : ℕ) → List·Memᴰ α αs → q < n → occurs q α ≡ false → List·Memᴰ (q ∷ α) (childrenOf n αs)
 unfolding childrenOf children
 child-of n [] α q m l a = absurd (List·Memᴰ·not-nil m)
 child-of n (β ∷ αs) α q m l a =

@@ -1,0 +1,115 @@
+-- Values are below the span, and lists name boards below n.
+-- Assumes nothing.
+use Prim.Native.Nat.{ℕ, zero, suc, _-_, _<_, _^_}
+use mathlib.Core.Path.{_≡_, refl}
+use mathlib.Core.Bool.{Bool}
+use mathlib.Core.List.{List, [], _∷_, List·Memᴰ, List·Memᴰ·head, List·Memᴰ·tail}
+use mathlib.Core.Option.{Option, some, none, Option·getD}
+use native.Mathlib.Omega.{arith}
+use lib.Dec.{ltb}
+use lib.Bits.{or-lt}
+use lib.Pow.{pow-lt}
+use borrow.Author.Tests.{ltb-true}
+use Rattle.sets.specs.Sets.{insert}
+use Rattle.sets.proofs.Tests.{cases}
+use Rattle.plan.specs.declared.plan.Plan.{Plan}
+use Rattle.plan.specs.Schedule.{rounds}
+use Rattle.tree.specs.Labels.{Label, last, labels}
+use Rattle.tree.specs.Cells.{cellAt}
+use Rattle.tree.proofs.Labels.{no-label, root-inv, label-inv}
+use Rattle.protocol.specs.Nodes.{default, value, read, internal, inner}
+use Rattle.sets.specs.Only.{only}
+use Rattle.sets.proofs.Only.{only-some}
+use Rattle.protocol.specs.Detection.{vote, resolve, resolveRoot, byCell, byResolving, join, passes, Scan, detect1, detectAll1, detect2, detectAll2, detectLevels}
+use Rattle.protocol.specs.Rounds.{Board, gather}
+use Rattle.protocol.proofs.Nodes.{inner-inv, node-label}
+
+module _ (p : Plan) (some-value : 0 < p .span) where
+  pub default-small : default p < p .span
+  unfolding default
+  default-small = some-value
+
+  pub value-small : (x : ℕ) → value p x < p .span
+  unfolding value
+  value-small x = cases (ltb x (p .span)) (λ e. rw e (ltb-true x (p .span) e)) (λ e. rw e default-small)
+
+  pub read-small : (cells : List ℕ) (α : Label) → read p cells α < p .span
+  unfolding read
+  read-small cells α = value-small (cellAt (p .n) cells α)
+
+  -- What is there is a value.
+  abbrev pub Small : Option ℕ → Type 0
+  Small o = (v : ℕ) → o ≡ some v → v < p .span
+
+  some-small : (x : ℕ) → x < p .span → Small (some x)
+  some-small x l v e = let z : x ≡ v = cc in omega arith
+
+  none-small : Small none
+  none-small v e = let z : _≡_ {A = ℕ} 0 1 = cc in absurd (omega arith)
+
+  pub only-small : (f : ℕ → Bool) → Small (only f (p .span))
+  only-small f v e = only-some f (p .span) v e .0
+
+  pub resolve-small : (i : ℕ) (cells : List ℕ) (left : ℕ) (α : Label) → Small (resolve p i cells left α)
+  unfolding resolve vote
+  resolve-small i cells zero α = some-small (read p cells α) (read-small cells α)
+  resolve-small i cells (suc left) α =
+      cases (internal p i α)
+      (λ e. rw e (only-small _))
+      (λ e. rw e (some-small (read p cells α) (read-small cells α)))
+
+  pub root-small : (i : ℕ) (cells : List ℕ) → resolveRoot p i cells < p .span
+  unfolding resolveRoot
+  root-small i cells = go (resolve p i cells (rounds p .0 - 1) (p .dealer ∷ [])) (resolve-small i cells (rounds p .0 - 1) (p .dealer ∷ []))
+    where
+      go : (o : Option ℕ) → Small o → Option·getD o (default p) < p .span
+      go none h = default-small
+      go (some v) h = h v refl
+
+-- The last board of a label is below n.
+pub last-below : (n d k : ℕ) (α : Label) → d < n → List·Memᴰ α (labels n d k) → last α < n
+unfolding last
+last-below n d zero α l m = absurd (no-label n d α m)
+last-below n d (suc zero) α l m = rw (root-inv n d α m) l
+last-below n d (suc (suc k)) α l m = let (β, w, (q, x, lq, a)) = label-inv n d k α m in rw x lq
+
+pub insert-below : (n r s : ℕ) → r < n → s < 2 ^ n → insert r s < 2 ^ n
+unfolding insert
+insert-below n r s l h = or-lt n s (2 ^ r) h (pow-lt l)
+
+module _ (p : Plan) (l : p .dealer < p .n) (i : ℕ) where
+  -- These are nodes.
+  abbrev pub Inner : List Label → Type 0
+  Inner αs = (α : Label) → List·Memᴰ α αs → (k : ℕ) × List·Memᴰ α (inner p i k)
+
+  join-below : (α : Label) → ((k : ℕ) × List·Memᴰ α (inner p i k)) → (s : ℕ) → s < 2 ^ p .n → join (last α) s < 2 ^ p .n
+  unfolding join
+  join-below α h s b =
+      let (k, m) = h in
+      insert-below (p .n) (last α) s (last-below (p .n) (p .dealer) k α l (node-label p i k α (inner-inv p i k α m .0))) b
+
+  pub detect1-below : (αs : List Label) (s : Scan) → Inner αs → s .detected < 2 ^ p .n → detectAll1 p i αs s .detected < 2 ^ p .n
+  unfolding detectAll1 detect1
+  detect1-below [] s h b = b
+  detect1-below (α ∷ αs) s h b =
+      detect1-below αs (detect1 p i α s) (λ β w. h β (List·Memᴰ·tail w))
+      (cases (passes p α (byCell p (s .cells) α) (s .detected)) (λ e. rw e b) (λ e. rw e (join-below α (h α (List·Memᴰ·head refl)) (s .detected) b)))
+
+  pub detect2-below : (cells : List ℕ) (αs : List Label) (s : ℕ) → Inner αs → s < 2 ^ p .n → detectAll2 p i cells αs s < 2 ^ p .n
+  unfolding detectAll2 detect2
+  detect2-below cells [] s h b = b
+  detect2-below cells (α ∷ αs) s h b =
+      detect2-below cells αs (detect2 p i cells α s) (λ β w. h β (List·Memᴰ·tail w))
+      (cases (passes p α (byResolving p i cells α) s) (λ e. rw e b) (λ e. rw e (join-below α (h α (List·Memᴰ·head refl)) s b)))
+
+  pub levels-below : (cells : List ℕ) (k s : ℕ) → s < 2 ^ p .n → detectLevels p i cells k s < 2 ^ p .n
+  unfolding detectLevels
+  levels-below cells zero s b = b
+  levels-below cells (suc k) s b =
+      levels-below cells k (detectAll2 p i cells (inner p i (suc k)) s) (detect2-below cells (inner p i (suc k)) s (λ α m. (suc k, m)) b)
+
+pub gather-below : (b : Board) → b .rec .plan .dealer < b .rec .plan .n → b .rec .detected < 2 ^ b .rec .plan .n → gather b .detected < 2 ^ b .rec .plan .n
+unfolding gather
+gather-below b l h =
+    detect1-below (b .rec .plan) l (b .rec .board) (inner (b .rec .plan) (b .rec .board) (b .rec .round .0 - 1)) _
+    (λ α m. (b .rec .round .0 - 1, m)) h

@@ -1,0 +1,17 @@
+-- The only number that passes a test, and equality of optional numbers.
+-- Assumes nothing.
+use Prim.Native.Nat.{ℕ}
+use mathlib.Core.Bool.{Bool, true, false, cond}
+use mathlib.Core.Option.{Option, some, none}
+use lib.Dec.{eqb}
+use Rattle.sets.specs.Search.{count, first}
+
+-- The only number below k that passes the test; none if there is none or more than one.
+unfoldable pub only : (ℕ → Bool) → ℕ → Option ℕ
+only f k = cond (eqb (count f k) 1) (some (first f k 0)) none
+
+unfoldable pub same : Option ℕ → Option ℕ → Bool
+same none none = true
+same none (some w) = false
+same (some v) none = false
+same (some v) (some w) = eqb v w

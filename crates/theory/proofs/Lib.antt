@@ -1,0 +1,9 @@
+pub mod Nodes
+pub mod Plans
+pub mod Votes
+pub mod Uniform
+pub mod Soundness
+pub mod FullTree
+pub mod Detection
+pub mod Global
+pub mod Agreement

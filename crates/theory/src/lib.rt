@@ -1,0 +1,1 @@
+// The agreement theorem over abstract boards, cells and lists: definitions and proofs only.
