@@ -3,15 +3,15 @@
 use Prim.Native.Nat.{ℕ, zero, suc, _+_, _-_, _/_, _%_, _^_, _≤_, _<_, min, max}
 use mathlib.Core.Path.{_≡_, sym, _∙_, ap, subst}
 use mathlib.Core.Logic.{_≢_}
-use mathlib.Core.Bool.{true, false, _||_, or-comm}
+use mathlib.Core.Bool.{Bool, true, false, _&&_, _||_, or-comm, and-false}
 use native.Mathlib.Nat.{mod-eq-of-lt, mul-add-mod-self-right, div-div-eq-div-mul, pow-succ', pow-suc, div-one, div-eq-of-lt, one-mul}
 use native.Mathlib.Omega.{arith}
 use lib.Dec.{eqb, ltb}
-use lib.Bits.{bitAnd, bitOr, and-step, or-step, and-shr, or-shr, and-le-l, and-self, mask-lt}
+use lib.Bits.{bitAnd, bitOr, and-step, or-step, and-shr, or-shr, and-le-l, and-self, mask-lt, or-lt}
 use lib.Pow.{pow-mono, pow-lt, pow-pos, pow-add, shl-shr, high, ones-lt, ones-split}
-use borrow.Author.Tests.{eqb-true, eqb-false, eq-eqb, ltb-true, ltb-false, lt-ltb}
+use borrow.Author.Tests.{eqb-true, eqb-false, eq-eqb, ltb-true, ltb-false, lt-ltb, le-ltb}
 use Rattle.sets.specs.Search.{count}
-use Rattle.sets.specs.Sets.{member, union, insert, within, boards, size}
+use Rattle.sets.specs.Sets.{member, union, insert, within, boards, setOf, size}
 use Rattle.sets.proofs.Count.{count-cut}
 use Rattle.sets.proofs.Tests.{cases, clash, is-false, is-true, same-test}
 
@@ -175,3 +175,31 @@ boards-within n a h = member-within n a (boards n) h (λ i l t. member-boards i 
 pub size-count : (n s : ℕ) → s < 2 ^ n → n ≤ 8 → size s ≡ count (λ i. member i s) n
 unfolding size
 size-count n s h l = count-cut (λ i. member i s) n 8 l (λ i p _. member-high n i s h p)
+
+-- The set of the boards below n that pass the test.
+pub member-setOf : (f : ℕ → Bool) (n i : ℕ) → member i (setOf f n) ≡ (ltb i n && f i)
+unfolding setOf
+member-setOf f zero i = member-empty i ∙ sym (ap (λ b. b && f i) (le-ltb i 0 (omega arith)))
+member-setOf f (suc k) i =
+    let ih = member-setOf f k i in
+    cases (f k)
+    (λ t. rw t (member-insert i k (setOf f k) ∙ ap (λ b. eqb i k || b) ih ∙ cases (eqb i k)
+    (λ e. let z = eqb-true i k e in rw (e, z, lt-ltb k (suc k) (omega arith), t))
+    (λ e. let ne : i ≢ k = eqb-false i k e in rw e (ap (λ b. b && f i) (bound ne)))))
+    (λ t. rw t (ih ∙ cases (eqb i k)
+    (λ e. let z = eqb-true i k e in rw (z, t) (and-false (ltb k k) ∙ sym (and-false (ltb k (suc k)))))
+    (λ e. let ne : i ≢ k = eqb-false i k e in ap (λ b. b && f i) (bound ne))))
+  where
+    bound : i ≢ k → ltb i k ≡ ltb i (suc k)
+    bound ne =
+        cases (ltb i k)
+        (λ e. e ∙ sym (lt-ltb i (suc k) (let l = ltb-true i k e in omega arith)))
+        (λ e. e ∙ sym (le-ltb i (suc k) (let l = ltb-false i k e in omega arith)))
+
+pub setOf-below : (f : ℕ → Bool) (n : ℕ) → setOf f n < 2 ^ n
+unfolding setOf insert
+setOf-below f zero = omega arith
+setOf-below f (suc k) =
+    let ih = setOf-below f k in
+    let up : setOf f k < 2 ^ suc k = omega (arith, pow-suc 2 k) in
+    cases (f k) (λ e. rw e (or-lt (suc k) (setOf f k) (2 ^ k) up (pow-lt (omega arith)))) (λ e. rw e up)
