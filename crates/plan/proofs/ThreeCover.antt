@@ -3,21 +3,22 @@
 use Prim.Native.Nat.{ℕ, zero, suc, _≤_, _<_, _^_}
 use mathlib.Core.Path.{_≡_, sym, _∙_, ap}
 use mathlib.Core.Logic.{inl, inr, ⊎-elim}
-use mathlib.Core.Bool.{true, false, not, _||_}
+use mathlib.Core.Bool.{Bool, true, false, not, _||_}
 use mathlib.Core.List.{List}
 use native.Mathlib.Omega.{arith}
 use native.Mathlib.Nat.{pow-suc}
-use lib.Dec.{leb}
+use lib.Dec.{leb, ltb}
 use lib.ListN.{length, getD}
-use borrow.Author.Tests.{lt-ltb, le-ltb, ne-eqb, ltb-true, leb-true, leb-false}
+use borrow.Author.Tests.{lt-ltb, le-ltb, ne-eqb, ltb-true, ltb-false, leb-true, leb-false}
+use Rattle.sets.specs.Search.{any}
 use Rattle.sets.specs.Sets.{member, within, boards}
 use Rattle.sets.specs.Structure.{tolerated}
 use Rattle.plan.specs.Cover.{strays, covered, places, thirdPlace, secondPlace, firstPlace}
 use Rattle.plan.specs.Outcome.{refusedAt}
 use Rattle.plan.specs.Calls.{admitting, covering}
-use Rattle.plan.specs.Claims.{Within, ListedCover, ToleratedCover, ThreeCover}
-use Rattle.sets.proofs.Tests.{cases, clash, is-false, or-true, or-left, or-right}
-use Rattle.sets.proofs.Search.{any-true}
+use Rattle.plan.specs.Claims.{Cover, Within, ListedCover, ToleratedCover, ThreeCover}
+use Rattle.sets.proofs.Tests.{cases, clash, is-false, or-true, or-left, or-right, or-l, or-r, not-t, not-f}
+use Rattle.sets.proofs.Search.{any-true, any-false}
 use Rattle.sets.proofs.Member.{within-member, member-within, member-boards, member-empty, within-refl}
 use Rattle.sets.proofs.Tolerated.{listed-tolerated, tolerated-listed}
 use Rattle.plan.proofs.Cover.{CoverAt, found-of, first-triple}
@@ -159,3 +160,30 @@ three-cover n sets w =
             first-triple n sets f,
           );
     }
+
+-- 003, Q3: where no three listed sets cover, some board is outside any three tolerated sets.
+pub q3 : (n : ℕ) (sets : List ℕ) → 0 < n → covered n sets ≡ false → (a b c : ℕ) → tolerated sets a ≡ true → tolerated sets b ≡ true → tolerated sets c ≡ true
+    → (q : ℕ) × (q < n) × (member q a ≡ false) × (member q b ≡ false) × (member q c ≡ false)
+unfolding covered
+q3 n sets z gap a b c ta tb tc =
+    cases (any free n)
+    (λ e. let (q, l, t) = any-true free n e in
+    let (x, rest) = split (member q a) (member q b || member q c) (not-t (member q a || (member q b || member q c)) t) in
+    let (y, w) = split (member q b) (member q c) rest in
+    (q, l, x, y, w))
+    (λ e. let all : Cover n a b c = λ q l. not-f (member q a || (member q b || member q c)) (any-false free n e q l) in
+    cases (ltb 0 (length sets))
+    (λ s. clash (lt-ltb (firstPlace n sets) (length sets)
+    (listed-found n sets (tolerated-covers n sets (ltb-true 0 (length sets) s) (a, b, c, ta, tb, tc, all)))) gap)
+    (λ s. (0, z, none s a ta, none s b tb, none s c tc)))
+  where
+    free : ℕ → Bool
+    free q = not (member q a || (member q b || member q c))
+
+    split : (x y : Bool) → (x || y) ≡ false → (x ≡ false) × (y ≡ false)
+    split x y e = (or-l x y e, or-r x y e)
+
+    -- an empty list tolerates the empty set only
+    none : ltb 0 (length sets) ≡ false → (s : ℕ) → tolerated sets s ≡ true → member 0 s ≡ false
+    none e s t =
+        ⊎-elim (λ x. rw x (member-empty 0)) (λ w. let (i, l, _) = w in absurd (omega (arith, ltb-false 0 (length sets) e))) (tolerated-listed sets s t)

@@ -14,7 +14,7 @@ use Rattle.sets.specs.Search.{count}
 use Rattle.sets.specs.Sets.{member, setOf, insert, size}
 use Rattle.sets.specs.Structure.{tolerated}
 use Rattle.sets.specs.Only.{only, same}
-use Rattle.sets.proofs.Tests.{cases, clash, is-false, is-true, and-l, and-r, and-true, or-l, or-r, same-test}
+use Rattle.sets.proofs.Tests.{cases, clash, is-false, is-true, and-l, and-r, and-true, or-true, or-l, or-r, same-test}
 use Rattle.sets.proofs.Member.{member-setOf, setOf-below, size-count}
 use Rattle.sets.proofs.Tolerated.{tolerated-mono, tolerated-empty}
 use Rattle.sets.proofs.Only.{only-same}
@@ -22,13 +22,16 @@ use Rattle.sets.proofs.Count.{count-same}
 use Rattle.plan.specs.declared.plan.Plan.{Plan}
 use Rattle.plan.specs.Schedule.{listed, rounds, height, isCut}
 use Rattle.plan.specs.Calls.{judged}
-use Rattle.plan.proofs.Outcomes.{Accepted}
+use Rattle.plan.proofs.ThreeCover.{q3}
 use Rattle.plan.proofs.Height.{height-most}
 use Rattle.plan.proofs.Levels.{rounds-full, rounds-pos}
 use Rattle.tree.specs.Labels.{Label, occurs, mask}
 use Rattle.tree.proofs.Masks.{mask-member, mask-lt}
 use Rattle.theory.specs.Tree as T
-use Rattle.protocol.specs.Nodes.{default, read, internal}
+use Rattle.theory.specs.Tree.{Node, root, child}
+use Rattle.theory.proofs.Plans.{good}
+use Rattle.protocol.specs.Nodes.{default, read, internal, nodes, inner}
+use Rattle.protocol.proofs.Nodes.{no-node, root-node, node-root, node-has, node-inv, inner-has, inner-inv}
 use Rattle.protocol.specs.Detection.{vote, tabulate, resolve}
 use Rattle.protocol.proofs.Judgement.{plan-facts}
 use Rattle.protocol.proofs.Bounds.{default-small}
@@ -56,3 +59,104 @@ tol-mono p s t h e =
     (λ i l m. let z : s i ≡ true = and-r (ltb i (p .n)) (s i) (sym (member-setOf s (p .n) i) ∙ m) in
     member-setOf t (p .n) i ∙ and-true (ltb i (p .n)) (t i) (lt-ltb i (p .n) l) (h i l z))
     e
+
+-- Sets of boards that pass the same tests are equal.
+pub setOf-same : (f g : ℕ → Bool) (n : ℕ) → ((i : ℕ) → i < n → f i ≡ g i) → setOf f n ≡ setOf g n
+unfolding setOf
+setOf-same f g zero h = refl
+setOf-same f g (suc k) h = rw (h k (omega arith), setOf-same f g k (λ i l. h i (omega arith)))
+
+-- Q3, for tests.
+pub tol-q3 : (p : Plan) → judged p .number ≡ 0 → (a b c : T.Boards) → tol p a ≡ true → tol p b ≡ true → tol p c ≡ true
+    → (i : ℕ) × (i < p .n) × (a i ≡ false) × (b i ≡ false) × (c i ≡ false)
+unfolding tol
+tol-q3 p e a b c ta tb tc =
+    let f = plan-facts p e .admission in
+    let (q, l, x, y, z) = q3 (p .n) (listed p) (f .some-board) (f .gap) (setOf a (p .n)) (setOf b (p .n)) (setOf c (p .n)) ta tb tc in
+    (q, l, out a q l x, out b q l y, out c q l z)
+  where
+    out : (s : T.Boards) (q : ℕ) → q < p .n → member q (setOf s (p .n)) ≡ false → s q ≡ false
+    out s q l m = is-false (s q) (λ t. clash (member-setOf s (p .n) q ∙ and-true (ltb q (p .n)) (s q) (lt-ltb q (p .n) l) t) m)
+
+-- The boards of a label, as a set and as a test.
+pub tol-path : (p : Plan) (α : Label) → ((i : ℕ) → occurs i α ≡ true → i < p .n) → tol p (T.path α) ≡ tolerated (listed p) (mask α)
+unfolding tol
+tol-path p α h =
+    let s = setOf (T.path α) (p .n) in
+    same-test (tolerated (listed p) s) (tolerated (listed p) (mask α))
+    (λ t. tolerated-mono (listed p) (p .n) (mask α) s (mask-lt (p .n) α h)
+    (λ i l m. member-setOf (T.path α) (p .n) i ∙ and-true (ltb i (p .n)) (occurs i α) (lt-ltb i (p .n) l) (sym (mask-member i α) ∙ m)) t)
+    (λ t. tolerated-mono (listed p) (p .n) s (mask α) (setOf-below (T.path α) (p .n))
+    (λ i l m. mask-member i α ∙ and-r (ltb i (p .n)) (occurs i α) (sym (member-setOf (T.path α) (p .n) i) ∙ m)) t)
+
+-- The levels left below a node, and its length.
+pub node-level : (p : Plan) {i k : ℕ} {α : Label} → Node (inst p) i k α → length α + k ≡ rounds p .0
+node-level p root = omega (arith, rounds-pos p)
+node-level p (child N e l a) = omega (arith, node-level p N)
+
+pub node-below : (p : Plan) → p .dealer < p .n → {i k : ℕ} {α : Label} → Node (inst p) i k α → (q : ℕ) → occurs q α ≡ true → q < p .n
+unfolding occurs
+node-below p ld root q t = ⊎-elim (λ e. omega (arith, eqb-true q (p .dealer) e)) (λ e. clash e refl) (or-true (eqb q (p .dealer)) false t)
+node-below p ld (child {c = c} {α = α} N e l a) q t =
+    ⊎-elim (λ x. omega (arith, eqb-true q c x)) (λ x. node-below p ld N q x) (or-true (eqb q c) (occurs q α) t)
+
+-- A node of the theory is a node of the definitions, and back.
+pub node-mem : (p : Plan) {i k : ℕ} {α : Label} → Node (inst p) i k α → List·Memᴰ α (nodes p i (length α))
+node-mem p {i} root = root-node p i
+node-mem p {i} (child {c = c} {α = α} N e l a) =
+    let m = node-mem p N in
+    step-up p i c α (length α) m e l a
+  where
+    step-up : (p : Plan) (i c : ℕ) (α : Label) (j : ℕ) → List·Memᴰ α (nodes p i j) → internal p i α ≡ true → c < p .n → occurs c α ≡ false
+        → List·Memᴰ (c ∷ α) (nodes p i (suc j))
+    step-up p i c α zero m e l a = absurd (no-node p i α m)
+    step-up p i c α (suc j) m e l a = node-has p i j α c (inner-has p i (suc j) α m e) l a
+
+pub mem-node : (p : Plan) (i j k : ℕ) (α : Label) → List·Memᴰ α (nodes p i j) → j + k ≡ rounds p .0 → Node (inst p) i k α
+mem-node p i zero k α m e = absurd (no-node p i α m)
+mem-node p i (suc zero) k α m e =
+    let z : rounds p .0 - 1 ≡ k = omega arith in
+    rw (node-root p i α m) (subst (λ x. Node (inst p) i x (p .dealer ∷ [])) z root)
+mem-node p i (suc (suc j)) k α m e =
+    let (β, w, (q, x, l, a)) = node-inv p i j α m in
+    let (v, t) = inner-inv p i (suc j) β w in
+    rw x (child (mem-node p i (suc j) (suc k) β v (omega arith)) t l a)
+
+-- What the theory asks of a plan.
+pub inst-good : (p : Plan) (F : ℕ) → judged p .number ≡ 0 → F < 2 ^ p .n → tolerated (listed p) F ≡ true → T.Good (inst p) (λ i. member i F)
+unfolding internal tol
+inst-good p F e lF tF =
+    let f = plan-facts p e in
+    good (inst p)
+    (λ i k α N t. tol-path p α (node-below p (f .dealer-below) N) ∙ and-l (tolerated (listed p) (mask α)) (ltb (length α) (rounds p .0)) t)
+    (λ i k α N t _. and-true (tolerated (listed p) (mask α)) (ltb (length α) (rounds p .0))
+    (sym (tol-path p α (node-below p (f .dealer-below) N)) ∙ t) (lt-ltb (length α) (rounds p .0) (omega (arith, node-level p N))))
+    (λ i. member i F) (default-small p (omega (arith, f .two-values))) (f .dealer-below) (tol-mono p) (tol-q3 p e)
+    (tolerated-mono (listed p) (p .n) (setOf (λ i. member i F) (p .n)) F (setOf-below (λ i. member i F) (p .n))
+    (λ i l m. and-r (ltb i (p .n)) (member i F) (sym (member-setOf (λ i. member i F) (p .n) i) ∙ m)) tF)
+
+-- Entry c of a table.
+pub tabulate-at : (f : ℕ → Option ℕ) (k i c : ℕ) → c < k → getD (tabulate f i k) c none ≡ f (i + c)
+unfolding tabulate
+tabulate-at f zero i c l = absurd (omega arith)
+tabulate-at f (suc k) i zero l = ap f (let z : i ≡ i + 0 = omega arith in z)
+tabulate-at f (suc k) i (suc c) l = tabulate-at f k (suc i) c (omega arith) ∙ ap f (let z : suc i + c ≡ i + suc c = omega arith in z)
+
+-- The vote looks only at children.
+pub vote-same : (p : Plan) (α : Label) (f g : ℕ → Option ℕ) → ((c : ℕ) → c < p .n → occurs c α ≡ false → f c ≡ g c) → vote p α f ≡ T.winner (inst p) α g
+unfolding vote T.winner tol
+vote-same p α f g h =
+    only-same (λ v. not (tolerated (listed p) (setOf (λ c. not (occurs c α) && same (f c) (some v)) (p .n))))
+    (λ v. not (tolerated (listed p) (setOf (T.votes α g v) (p .n)))) (p .span)
+    (λ v l. ap (λ s. not (tolerated (listed p) s)) (setOf-same (λ c. not (occurs c α) && same (f c) (some v)) (T.votes α g v) (p .n)
+    (λ c lc. cases (occurs c α) (λ e. rw e) (λ e. rw e (ap (λ o. same o (some v)) (h c lc e))))))
+
+-- A board resolves a node as the theory has it.
+pub resolve-inst : (p : Plan) (i : ℕ) (cells : List ℕ) (k : ℕ) (α : Label) → resolve p i cells k α ≡ T.resolve (inst p) i (read p cells) k α
+unfolding resolve T.resolve
+resolve-inst p i cells zero α = refl
+resolve-inst p i cells (suc k) α =
+    let child-of : ℕ → Option ℕ = λ c. cond (occurs c α) none (resolve p i cells k (c ∷ α)) in
+    ap (λ o. cond (internal p i α) o (some (read p cells α)))
+    (vote-same p α (λ c. getD (tabulate child-of 0 (p .n)) c none) (λ c. T.resolve (inst p) i (read p cells) k (c ∷ α))
+    (λ c l a. tabulate-at child-of (p .n) 0 c l ∙ ap child-of (let z : 0 + c ≡ c = omega arith in z) ∙ rw a (resolve-inst p i cells k (c ∷ α))))
