@@ -1,0 +1,132 @@
+-- Rule FD2 over the levels: lists grow, a board that is not listed in the end was spared at each of its nodes, and no healthy board is listed.
+-- Assumes nothing.
+use Prim.Native.Nat.{ℕ, zero, suc, _+_, _-_, _≤_, _<_}
+use mathlib.Core.Path.{_≡_, refl, sym, _∙_, ap, subst}
+use mathlib.Core.Logic.{_≢_, _⊎_, inl, inr, ⊎-elim}
+use mathlib.Core.Bool.{Bool, true, false, not, _&&_, _||_, cond}
+use mathlib.Core.List.{List, [], _∷_, List·Memᴰ, List·Memᴰ·head, List·Memᴰ·tail, List·Memᴰ·cases-cons, List·Memᴰ·not-nil}
+use mathlib.Core.Option.{Option, some}
+use native.Mathlib.Omega.{arith}
+use lib.Dec.{eqb}
+use borrow.Author.Tests.{eqb-true, eqb-false}
+use Rattle.sets.specs.Sets.{member, setOf}
+use Rattle.sets.specs.Structure.{tolerated}
+use Rattle.sets.specs.Only.{same}
+use Rattle.sets.proofs.Tests.{cases, clash, is-false, is-true, or-true, or-r, or-left, or-right}
+use Rattle.sets.proofs.Search.{any-true}
+use Rattle.plan.specs.declared.plan.Plan.{Plan}
+use Rattle.plan.specs.Schedule.{listed}
+use Rattle.tree.specs.Labels.{Label, occurs, last}
+use Rattle.theory.specs.Tree as T
+use Rattle.theory.proofs.Soundness.{spared}
+use Rattle.protocol.specs.Nodes.{inner}
+use Rattle.protocol.specs.Detection.{explained, byResolving, join, passes, detect2, detectAll2, detectLevels}
+use Rattle.protocol.proofs.Instance.{tol, tol-mono, inst}
+use Rattle.protocol.proofs.Gathering.{listOf, join-has, join-keeps, join-inv, explained-inst}
+
+module _ (p : Plan) (i : ℕ) (cells : List ℕ) where
+  kept : (α : Label) (s : ℕ) → passes p α (byResolving p i cells α) s ≡ true → detect2 p i cells α s ≡ s
+  unfolding detect2
+  kept α s e = rw e
+
+  joined : (α : Label) (s : ℕ) → passes p α (byResolving p i cells α) s ≡ false → detect2 p i cells α s ≡ join (last α) s
+  unfolding detect2
+  joined α s e = rw e
+
+  detect2-grow : (α : Label) (s r : ℕ) → member r s ≡ true → member r (detect2 p i cells α s) ≡ true
+  detect2-grow α s r h =
+      cases (passes p α (byResolving p i cells α) s) (λ e. rw (kept α s e) h) (λ e. rw (joined α s e) (join-keeps (last α) s r h))
+
+  level-grow : (αs : List Label) (s r : ℕ) → member r s ≡ true → member r (detectAll2 p i cells αs s) ≡ true
+  unfolding detectAll2
+  level-grow [] s r h = h
+  level-grow (α ∷ αs) s r h = level-grow αs (detect2 p i cells α s) r (detect2-grow α s r h)
+
+  pub levels-grow : (k s r : ℕ) → member r s ≡ true → member r (detectLevels p i cells k s) ≡ true
+  unfolding detectLevels
+  levels-grow zero s r h = h
+  levels-grow (suc k) s r h = levels-grow k (detectAll2 p i cells (inner p i (suc k)) s) r (level-grow (inner p i (suc k)) s r h)
+
+  -- Some value leaves a tolerated set of children with another, and of listed boards.
+  abbrev pub SparedBy : ℕ → Label → Type 0
+  SparedBy s α = (v : ℕ) × (v < p .span) × (tol p (λ c. T.others α (byResolving p i cells α) v c || member c s) ≡ true)
+
+  -- Spared with a longer list, spared with a shorter one.
+  fewer : (α : Label) (s t : ℕ) → ((r : ℕ) → member r s ≡ true → member r t ≡ true) → SparedBy t α → SparedBy s α
+  fewer α s t h x =
+      let (v, l, e) = x in
+      (v, l, tol-mono p (λ c. T.others α (byResolving p i cells α) v c || member c s) (λ c. T.others α (byResolving p i cells α) v c || member c t)
+      (λ c _ z. ⊎-elim
+      (λ a. or-left (T.others α (byResolving p i cells α) v c) (member c t) a)
+      (λ b. or-right (T.others α (byResolving p i cells α) v c) (member c t) (h c b))
+      (or-true (T.others α (byResolving p i cells α) v c) (member c s) z)) e)
+
+  spared-here : (α : Label) (s : ℕ) → member (last α) (detect2 p i cells α s) ≡ false → SparedBy s α
+  unfolding passes explained tol
+  spared-here α s u =
+      cases (passes p α (byResolving p i cells α) s)
+      (λ e. let new = subst (λ x. member (last α) x ≡ false) (kept α s e) u in
+      let why : explained p α (byResolving p i cells α) s ≡ true =
+      ⊎-elim (λ t. clash t new) (λ t. t) (or-true (member (last α) s) (explained p α (byResolving p i cells α) s) e) in
+      any-true (λ v. tolerated (listed p) (setOf (λ c. (not (occurs c α) && not (same (byResolving p i cells α c) (some v))) || member c s) (p .n))) (p .span) why)
+      (λ e. clash (join-has (last α) s) (subst (λ x. member (last α) x ≡ false) (joined α s e) u))
+
+  level-spared : (αs : List Label) (s : ℕ) (α : Label) → List·Memᴰ α αs → member (last α) (detectAll2 p i cells αs s) ≡ false → SparedBy s α
+  unfolding detectAll2
+  level-spared [] s α m u = absurd (List·Memᴰ·not-nil m)
+  level-spared (β ∷ αs) s α m u =
+      let s′ = detect2 p i cells β s in
+      ⊎-elim
+      (λ e. subst (SparedBy s) (sym e) (spared-here β s (is-false (member (last β) s′) (λ t.
+      clash (level-grow αs s′ (last β) t) (subst (λ x. member (last x) (detectAll2 p i cells αs s′) ≡ false) e u)))))
+      (λ m′. fewer α s s′ (detect2-grow β s) (level-spared αs s′ α m′ u))
+      (List·Memᴰ·cases-cons m)
+
+  pub levels-spared : (k s j : ℕ) (α : Label) → 1 ≤ j → j ≤ k → List·Memᴰ α (inner p i j) → member (last α) (detectLevels p i cells k s) ≡ false → SparedBy s α
+  unfolding detectLevels
+  levels-spared zero s j α low high m u = absurd (omega arith)
+  levels-spared (suc k) s j α low high m u =
+      let s′ = detectAll2 p i cells (inner p i (suc k)) s in
+      cases (eqb j (suc k))
+      (λ e. level-spared (inner p i (suc k)) s α (subst (λ x. List·Memᴰ α (inner p i x)) (eqb-true j (suc k) e) m)
+      (is-false (member (last α) s′) (λ t. clash (levels-grow k s′ (last α) t) u)))
+      (λ e. let ne : j ≢ suc k = eqb-false j (suc k) e in
+      fewer α s s′ (level-grow (inner p i (suc k)) s) (levels-spared k s′ j α low (omega arith) m u))
+
+  -- No healthy board is listed where the healthy children of each node of a healthy board resolve to one value.
+  module _ (F : ℕ) (G : T.Good (inst p) (listOf F)) where
+    abbrev pub Minds : Label → Type 0
+    Minds α = member (last α) F ≡ false
+        → (v : ℕ) × (v < p .span) × ((c : ℕ) → T.Healthy (inst p) (listOf F) c → occurs c α ≡ false → byResolving p i cells α c ≡ some v)
+
+    abbrev pub Sound : ℕ → Type 0
+    Sound s = T.Sub (p .n) (listOf s) (listOf F)
+
+    detect2-sound : (α : Label) (s : ℕ) {j : ℕ} → T.Node (inst p) i j α → Minds α → Sound s → Sound (detect2 p i cells α s)
+    unfolding passes
+    detect2-sound α s N mind sound q lq t =
+        cases (passes p α (byResolving p i cells α) s)
+        (λ e. sound q lq (subst (λ x. member q x ≡ true) (kept α s e) t))
+        (λ e. ⊎-elim
+        (λ x. is-true (member q F) (λ out.
+        let (v, lv, u) = mind (subst (λ z. member z F ≡ false) x out) in
+        clash (explained-inst p α (byResolving p i cells α) s ∙ spared G v (byResolving p i cells α) (listOf s) N lv u sound)
+        (or-r (member (last α) s) (explained p α (byResolving p i cells α) s) e)))
+        (sound q lq)
+        (join-inv (last α) s q (subst (λ x. member q x ≡ true) (joined α s e) t)))
+
+    level-sound : (αs : List Label) (s : ℕ) → ((α : Label) → List·Memᴰ α αs → (left : ℕ) × T.Node (inst p) i left α × Minds α) → Sound s
+        → Sound (detectAll2 p i cells αs s)
+    unfolding detectAll2
+    level-sound [] s f sound = sound
+    level-sound (α ∷ αs) s f sound =
+        let (left, N, mind) = f α (List·Memᴰ·head refl) in
+        level-sound αs (detect2 p i cells α s) (λ β w. f β (List·Memᴰ·tail w)) (detect2-sound α s N mind sound)
+
+    pub levels-sound : (k s : ℕ) → ((j : ℕ) (α : Label) → 1 ≤ j → j ≤ k → List·Memᴰ α (inner p i j) → (left : ℕ) × T.Node (inst p) i left α × Minds α)
+        → Sound s → Sound (detectLevels p i cells k s)
+    unfolding detectLevels
+    levels-sound zero s h sound = sound
+    levels-sound (suc k) s h sound =
+        levels-sound k (detectAll2 p i cells (inner p i (suc k)) s) (λ j α low high m. h j α low (omega arith) m)
+        (level-sound (inner p i (suc k)) s (λ α m. h (suc k) α (omega arith) (omega arith) m) sound)
