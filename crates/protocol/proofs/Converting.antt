@@ -54,12 +54,15 @@ module _ (p : Plan) (i : ℕ) (cells : List ℕ) where
   -- Spared with a longer list, spared with a shorter one.
   fewer : (α : Label) (s t : ℕ) → ((r : ℕ) → member r s ≡ true → member r t ≡ true) → SparedBy t α → SparedBy s α
   fewer α s t h x =
-      let (v, l, e) = x in
-      (v, l, tol-mono p (λ c. T.others α (byResolving p i cells α) v c || member c s) (λ c. T.others α (byResolving p i cells α) v c || member c t)
-      (λ c _ z. ⊎-elim
-      (λ a. or-left (T.others α (byResolving p i cells α) v c) (member c t) a)
-      (λ b. or-right (T.others α (byResolving p i cells α) v c) (member c t) (h c b))
-      (or-true (T.others α (byResolving p i cells α) v c) (member c s) z)) e)
+      let (v, l, e) = x in (
+        v,
+        l,
+        tol-mono p (λ c. T.others α (byResolving p i cells α) v c || member c s) (λ c. T.others α (byResolving p i cells α) v c || member c t)
+            (λ c _ z. ⊎-elim
+            (λ a. or-left (T.others α (byResolving p i cells α) v c) (member c t) a)
+            (λ b. or-right (T.others α (byResolving p i cells α) v c) (member c t) (h c b))
+            (or-true (T.others α (byResolving p i cells α) v c) (member c s) z)) e,
+      )
 
   spared-here : (α : Label) (s : ℕ) → member (last α) (detect2 p i cells α s) ≡ false → SparedBy s α
   unfolding passes explained tol

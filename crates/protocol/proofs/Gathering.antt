@@ -162,19 +162,22 @@ module _ (p : Plan) (l : p .dealer < p .n) (i : ℕ) where
         let why : explained p α (byCell p (s .cells) α) (s .detected) ≡ true =
         ⊎-elim (λ t. clash t new) (λ t. t) (or-true (member (last α) (s .detected)) (explained p α (byCell p (s .cells) α) (s .detected)) e) in
         let (v, lv, t) = any-true (λ v. tolerated (listed p) (setOf (λ c. (not (occurs c α) && not (same (byCell p (s .cells) α c) (some v))) || member c (s .detected)) (p .n))) (p .span) why in
-        subst (λ x. SparedBy (detectAll1 p i αs x) α) (sym kept) (v, lv,
-        tol-mono p (λ c. not (member c (detectAll1 p i αs s .detected)) && T.others α (byCell p (detectAll1 p i αs s .cells) α) v c)
-        (λ c. (not (occurs c α) && not (same (byCell p (s .cells) α c) (some v))) || member c (s .detected))
-        (λ c lc z.
-        let e′ = detectAll1 p i αs s in
-        let out = not-t (member c (e′ .detected)) (and-l (not (member c (e′ .detected))) (T.others α (byCell p (e′ .cells) α) v c) z) in
-        let oth = and-r (not (member c (e′ .detected))) (T.others α (byCell p (e′ .cells) α) v c) z in
-        let a = not-t (occurs c α) (and-l (not (occurs c α)) (not (same (byCell p (e′ .cells) α c) (some v))) oth) in
-        let cell : read p (e′ .cells) (c ∷ α) ≡ read p (s .cells) (c ∷ α) =
-        ⊎-elim (λ x. x) (λ x. clash (x .1) out) (scan-cell αs s (suc k) (c ∷ α) h (child-label α w c lc a) room) in
-        or-left (not (occurs c α) && not (same (byCell p (s .cells) α c) (some v))) (member c (s .detected))
-        (subst (λ x. (not (occurs c α) && not (same (some x) (some v))) ≡ true) cell oth))
-        t))
+        subst (λ x. SparedBy (detectAll1 p i αs x) α) (sym kept) (
+          v,
+          lv,
+          tol-mono p (λ c. not (member c (detectAll1 p i αs s .detected)) && T.others α (byCell p (detectAll1 p i αs s .cells) α) v c)
+              (λ c. (not (occurs c α) && not (same (byCell p (s .cells) α c) (some v))) || member c (s .detected))
+              (λ c lc z.
+              let e′ = detectAll1 p i αs s in
+              let out = not-t (member c (e′ .detected)) (and-l (not (member c (e′ .detected))) (T.others α (byCell p (e′ .cells) α) v c) z) in
+              let oth = and-r (not (member c (e′ .detected))) (T.others α (byCell p (e′ .cells) α) v c) z in
+              let a = not-t (occurs c α) (and-l (not (occurs c α)) (not (same (byCell p (e′ .cells) α c) (some v))) oth) in
+              let cell : read p (e′ .cells) (c ∷ α) ≡ read p (s .cells) (c ∷ α) =
+              ⊎-elim (λ x. x) (λ x. clash (x .1) out) (scan-cell αs s (suc k) (c ∷ α) h (child-label α w c lc a) room) in
+              or-left (not (occurs c α) && not (same (byCell p (s .cells) α c) (some v))) (member c (s .detected))
+              (subst (λ x. (not (occurs c α) && not (same (some x) (some v))) ≡ true) cell oth))
+              t,
+        ))
         (λ e. let joined = detect1-joined k α w s e in
         clash (scan-grow αs (detect1 p i α s) (last α) h (rw joined (join-has (last α) (s .detected)))) u)
 
@@ -223,9 +226,12 @@ module _ (p : Plan) (l : p .dealer < p .n) (i : ℕ) where
           let s′ = detect1 p i α s in
           let sound′ : Sound s′ = detect1-sound α s (N α (List·Memᴰ·head refl)) here (minds α (List·Memᴰ·head refl)) sound in
           scan-sound αs s′ (λ β w. N β (List·Memᴰ·tail w)) (λ β w. h β (List·Memᴰ·tail w)) (rw (same-length α here s) room)
-          (λ β w out. let (v, lv, u) = minds β (List·Memᴰ·tail w) out in
-          (v, lv, λ c C a. ⊎-elim
-          (λ x. x ∙ u c C a)
-          (λ x. clash (sound′ c (C .below) (x .1)) (C .correct))
-          (detect1-cell k α here s (suc k) (c ∷ β) (child-label β (h β (List·Memᴰ·tail w)) c (C .below) a) room)))
+          (λ β w out. let (v, lv, u) = minds β (List·Memᴰ·tail w) out in (
+            v,
+            lv,
+            λ c C a. ⊎-elim
+                (λ x. x ∙ u c C a)
+                (λ x. clash (sound′ c (C .below) (x .1)) (C .correct))
+                (detect1-cell k α here s (suc k) (c ∷ β) (child-label β (h β (List·Memᴰ·tail w)) c (C .below) a) room),
+          ))
           sound′

@@ -26,7 +26,7 @@ pub record Output : Type 0 where
   pub answer : Outcome
   pub out : List ℕ
 
--- What is judged, if it refuses, and then changes nothing; else the answer of a call that is taken.
+-- Is this the answer of a call that is taken? Where it is not, the call changes nothing.
 unfoldable pub isTaken : Outcome → Bool
 isTaken o = eqb (o .number) 0
 

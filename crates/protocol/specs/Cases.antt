@@ -9,7 +9,8 @@ use Rattle.plan.specs.Schedule.{height, rounds, runs, steps}
 use Rattle.plan.specs.Calls.{admitting, planning, planned}
 use Rattle.protocol.specs.Nodes.{nodes}
 use Rattle.protocol.specs.Calls.{beginning, receiving}
-use Rattle.protocol.specs.Playing.{Play, playing}
+use Rattle.protocol.specs.Playing.{Play, playing, benchPrints}
+use Rattle.tree.specs.Cells.{blank}
 
 pub data Row : Type 0 where
   -- n, sets: the number and the values of admitting
@@ -22,6 +23,8 @@ pub data Row : Type 0 where
   tree : ℕ → List ℕ → ℕ → ℕ → Row
   -- a sheet: all that is printed, and what the parts of the boards hold, the others being left alone
   sheet : List ℕ → List ℕ → List ℕ → Row
+  -- a sheet that is turned down: the line that is printed
+  refusedSheet : List ℕ → List ℕ → Row
   -- m, a value handed in: what is stored
   stored : ℕ → ℕ → ℕ → Row
 
@@ -48,19 +51,25 @@ played r text cells =
     (eqb (r .answer .number) 0 && sameList (r .answer .values) (length text ∷ []))
     && (sameList (r .out) (text ++ replicate (49 - length text) 9) && sameList (r .cells) (cells ++ replicate (13699 - length cells) 7))
 
+-- Is the plan with span 16 accepted?
+unfoldable pub isAccepted : ℕ → List ℕ → ℕ → ℕ → Bool
+isAccepted n sets d b = eqb (planning n (length sets) sets d 16 b .number) 0
+
 -- Does a row hold?
 unfoldable pub holds : Row → Bool
 holds (admit n sets k vs) = let o = admitting n (length sets) sets in eqb (o .number) k && sameList (o .values) vs
 holds (refuse n sets d m b k) = eqb (planning n (length sets) sets d m b .number) k
 holds (schedule n sets d b h t j) =
     let p = planned n sets d 16 b in
-    eqb (height p) h && (eqb (runs p .0) t && eqb (steps p) j)
-holds (tree n sets d k) = let p = planned n sets d 16 0 in eqb (nodeCount p (rounds p .0)) k
+    (isAccepted n sets d b && eqb (height p) h) && (eqb (runs p .0) t && eqb (steps p) j)
+holds (tree n sets d k) = let p = planned n sets d 16 0 in isAccepted n sets d 0 && eqb (nodeCount p (rounds p .0)) k
 holds (sheet text out cells) = let r = playing text lentCells lentOut in played r out cells
+holds (refusedSheet text line) = sameList (benchPrints text lentCells lentOut) line
 holds (stored m v x) =
     let p = planned 4 (1 ∷ 2 ∷ 4 ∷ 8 ∷ []) 0 m 0 in
     let b = beginning p 1 (replicate 16 9) .board in
-    eqb (getD (receiving b 0 (v ∷ []) .board .cells) 0 0) x
+    let r = receiving b 0 (v ∷ []) in
+    eqb (r .answer .number) 0 && eqb (getD (r .board .cells) 0 blank) x
 
 unfoldable pub allHold : List Row → Bool
 allHold [] = true
@@ -124,6 +133,9 @@ table =
     ∷ refuse 7 (0x3F ∷ []) 0 16 3 8
     -- 6
     ∷ schedule 7 (0x3F ∷ []) 6 4 1 1 1
+    ∷ schedule 7 (0x3F ∷ []) 6 5 1 1 1
+    ∷ schedule 7 (0x3F ∷ []) 6 0 1 1 1
+    ∷ schedule 7 (0x3F ∷ []) 6 7 1 1 1
     -- 7: values 05, 05, 07; then 010500, 020500, 030500
     ∷ sheet (head7 ++ (dealerLine 0x31 0x35 ++ (dealerLine 0x32 0x35 ++ dealerLine 0x33 0x37)))
     (printedLine 0x31 0x35 0x30 ++ (printedLine 0x32 0x35 0x30 ++ printedLine 0x33 0x35 0x30))
@@ -136,6 +148,9 @@ table =
     ∷ sheet (head9 ++ liar9)
     (printedLine 0x30 0x35 0x30 ++ (printedLine 0x31 0x35 0x30 ++ printedLine 0x32 0x35 0x30))
     (alone ++ (decidedPart 5 ++ decidedPart 5))
+    -- sheets that are turned down: an empty one, FF160001; case 9 with its frame twice, FF180003
+    ∷ refusedSheet [] (0x46 ∷ 0x46 ∷ 0x31 ∷ 0x36 ∷ 0x30 ∷ 0x30 ∷ 0x30 ∷ 0x31 ∷ 0x0A ∷ [])
+    ∷ refusedSheet (head9 ++ (liar9 ++ liar9)) (0x46 ∷ 0x46 ∷ 0x31 ∷ 0x38 ∷ 0x30 ∷ 0x30 ∷ 0x30 ∷ 0x33 ∷ 0x0A ∷ [])
     -- 10
     ∷ stored 16 0x0F 0x0F
     ∷ stored 16 0x10 0

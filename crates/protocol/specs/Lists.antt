@@ -65,10 +65,11 @@ keeper s i = ltb i (s .plan .n) && (not (member i (s .faulty)) && not (eqb i (s 
 unfoldable pub state : Setting → List Call → ℕ → Board
 state s calls = after (begun s) calls
 
--- A call that stands in the list after the calls `before`, and is taken.
+-- The call stands in the list after the calls `before`.
 abbrev pub Stands : Call → List Call → List Call → Type 0
 Stands c before calls = (rest : List Call) × (calls ≡ before ++ (c ∷ rest))
 
+-- It is taken there.
 abbrev pub Taken : Setting → Call → List Call → Type 0
 Taken s c before = answers c (state s before (caller c)) .number ≡ 0
 
@@ -151,6 +152,9 @@ pub record Agreement (s : Setting) (calls : List Call) : Type 0 where
   pub decided : (i : ℕ) → keeper s i ≡ true → (state s calls i .rec .decided ≡ true) ↔ (closings (begun s) i calls ≡ steps (s .plan))
   -- "and until then none of its closings is turned down"
   pub until : (i : ℕ) (before : List Call) → Stands (closes i) before calls → closings (begun s) i before < steps (s .plan) → Taken s (closes i) before
+  -- and then its decision can be read
+  pub readable : (i : ℕ) → keeper s i ≡ true → state s calls i .rec .decided ≡ true
+      → answers (decides i) (state s calls i) ≡ taken (state s calls i .rec .decision ∷ [])
   -- "All decisions read by boards outside F .. are equal"
   pub equal : (i j : ℕ) (before before′ : List Call) (v v′ : ℕ) → Stands (decides i) before calls → Stands (decides j) before′ calls
       → answers (decides i) (state s before i) ≡ taken (v ∷ []) → answers (decides j) (state s before′ j) ≡ taken (v′ ∷ []) → v ≡ v′

@@ -4,8 +4,10 @@ use mathlib.Core.Bool.{_&&_, _||_, cond}
 use mathlib.Core.List.{List, [], _∷_, _++_}
 use mathlib.Core.Option.{Option, some, none}
 use lib.Dec.{eqb, ltb}
-use lib.ListN.{length, take, drop}
+use lib.ListN.{length, getD, take, drop}
 use Rattle.sets.specs.Sets.{member}
+use Rattle.plan.specs.declared.schedule.Run.{Run}
+use Rattle.plan.specs.declared.schedule.Round.{Round}
 use Rattle.plan.specs.Schedule.{steps, stepRun, stepRound}
 use Rattle.plan.specs.Outcome.{Outcome, taken, refused}
 use Rattle.tree.specs.Places.{cellCount}
@@ -13,15 +15,15 @@ use Rattle.protocol.specs.Session.{Adversary, Setting, Boards, boardAt, 
 use Rattle.protocol.specs.Sheet.{Head, Frame, headPlan, wrongAt, reading}
 
 -- The values of the sheet's frame for a run, a round, a sender and a receiver, if it has one.
-unfoldable pub findFrame : ℕ → ℕ → ℕ → ℕ → List Frame → Option (List ℕ)
+unfoldable pub findFrame : Run → Round → ℕ → ℕ → List Frame → Option (List ℕ)
 findFrame t k q i [] = none
 findFrame t k q i (f ∷ fs) =
     let rest = findFrame t k q i fs in
-    cond ((eqb (f .run) t && eqb (f .round) k) && (eqb (f .sender) q && eqb (f .receiver) i)) (some (f .values)) rest
+    cond ((eqb (f .run .0) (t .0) && eqb (f .round .0) (k .0)) && (eqb (f .sender) q && eqb (f .receiver) i)) (some (f .values)) rest
 
 -- What the faulty boards do: step j, from 0, is round number j + 1 over all runs.
 unfoldable pub sheetAdversary : Head → List Frame → Adversary
-sheetAdversary h fs i j q = let p = headPlan h in findFrame (stepRun p (suc j) .0) (stepRound p (suc j) .0) q i fs
+sheetAdversary h fs i j q = let p = headPlan h in findFrame (stepRun p (suc j)) (stepRound p (suc j)) q i fs
 
 -- 01: "Board i's part starts at i times the cells for n".
 unfoldable pub part : ℕ → ℕ → List ℕ → List ℕ
@@ -93,3 +95,15 @@ playing text cells out =
     (cond (ltb (length out) 49) (refusedPlay (wrongAt 0 (refused 17)) cells out)
     (cond (ltb (length cells) 13699) (refusedPlay (wrongAt 0 (refused 11)) cells out)
     (cond (eqb (r .answer .number) 0) accepted (refusedPlay (r .answer) cells out))))
+
+-- 01: "If turned down it prints only FF, the number as one byte (24 is 18), and the line in two bytes", and a newline.
+unfoldable pub refusalText : ℕ → ℕ → List ℕ
+refusalText number line = hexByte 255 (hexByte number (hexByte (line / 256) (hexByte (line % 256) (10 ∷ []))))
+
+-- What the program bench prints for a sheet, with the buffers that it lends.
+unfoldable pub benchPrints : List ℕ → List ℕ → List ℕ → List ℕ
+benchPrints text cells out =
+    let r = playing text cells out in
+    let first = getD (r .answer .values) 0 0 in
+    let lines = take first (r .out) in
+    cond (eqb (r .answer .number) 0) lines (refusalText (r .answer .number) first)

@@ -8,6 +8,8 @@ use lib.ListN.{length, getD, take, drop}
 use Rattle.sets.specs.Sets.{member, within, boards}
 use Rattle.sets.specs.Structure.{tolerated}
 use Rattle.plan.specs.declared.plan.Plan.{Plan}
+use Rattle.plan.specs.declared.schedule.Run.{Run}
+use Rattle.plan.specs.declared.schedule.Round.{Round}
 use Rattle.plan.specs.Schedule.{hasRound}
 use Rattle.plan.specs.Outcome.{Outcome, taken, refused}
 use Rattle.plan.specs.Calls.{andThen, planning, planned}
@@ -89,16 +91,16 @@ judgeHead bytes =
 
 -- 01: "Then one frame a line: run, round, sender, receiver, values".
 pub record Frame : Type 0 where
-  pub run : ℕ
-  pub round : ℕ
+  pub run : Run
+  pub round : Round
   pub sender : ℕ
   pub receiver : ℕ
   pub values : List ℕ
 
 unfoldable pub frameLine : List ℕ → Frame
 frameLine bytes = record {
-  run = getD bytes 0 0;
-  round = getD bytes 1 0;
+  run = record { 0 = getD bytes 0 0 };
+  round = record { 0 = getD bytes 1 0 };
   sender = getD bytes 2 0;
   receiver = getD bytes 3 0;
   values = drop 4 bytes;
@@ -111,7 +113,7 @@ earlier a b next = ltb a b || (eqb a b && next)
 unfoldable pub rises : Option Frame → Frame → Bool
 rises none g = true
 rises (some f) g =
-    earlier (f .run) (g .run) (earlier (f .round) (g .round) (earlier (f .sender) (g .sender) (ltb (f .receiver) (g .receiver))))
+    earlier (f .run .0) (g .run .0) (earlier (f .round .0) (g .round .0) (earlier (f .sender) (g .sender) (ltb (f .receiver) (g .receiver))))
 
 -- Number 24: "under four bytes, not rising, sender not in F, receiver in F or d or not below n, or no frame due from that sender then".
 unfoldable pub goodFrame : Head → Option Frame → List ℕ → Bool
@@ -119,8 +121,8 @@ goodFrame h before bytes =
     let p = headPlan h in
     let f = frameLine bytes in
     (leb 4 (length bytes) && (rises before f && member (f .sender) (h .faulty)))
-    && ((not (member (f .receiver) (h .faulty)) && hasRound p (record { 0 = f .run }) (record { 0 = f .round }))
-    && due p (f .sender) (f .receiver) (record { 0 = f .round }))
+    && ((not (member (f .receiver) (h .faulty)) && hasRound p (f .run) (f .round))
+    && due p (f .sender) (f .receiver) (f .round))
 
 -- A sheet that was read: the answer, whose values for a refusal begin with the line; the head and the frames.
 pub record Reading : Type 0 where
