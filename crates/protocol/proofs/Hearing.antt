@@ -1,14 +1,16 @@
 -- A round of a board that hears some frames: what its cells hold when rule FD1 begins.
 -- Assumes nothing.
-use Prim.Native.Nat.{ℕ, zero, suc, _+_, _-_, _≤_, _<_}
+use Prim.Native.Nat.{ℕ, zero, suc, _+_, _-_, _≤_, _<_, _^_}
 use mathlib.Core.Path.{_≡_, refl, sym, _∙_, ap, subst}
 use mathlib.Core.Logic.{_≢_, _⊎_, inl, inr, ⊎-elim}
-use mathlib.Core.Bool.{Bool, true, false, not, _&&_, _||_, cond}
+use mathlib.Core.Bool.{Bool, true, false, not, _&&_, _||_, cond, and-false}
 use mathlib.Core.List.{List, [], _∷_, map, List·Memᴰ}
 use mathlib.Core.Option.{Option, some, none, Option·getD}
 use native.Mathlib.Omega.{arith}
 use lib.Dec.{eqb, ltb}
 use lib.ListN.{length, length-map}
+use lib.Pow.{pow-pos}
+use Rattle.protocol.proofs.Bounds.{insert-below, read-small}
 use borrow.Author.Tests.{eqb-true, eqb-false, eq-eqb, ne-eqb, ltb-true, lt-ltb}
 use Rattle.sets.specs.Sets.{member, insert}
 use Rattle.sets.specs.Structure.{isSome}
@@ -27,7 +29,7 @@ use Rattle.protocol.specs.Rounds.{Board, fill, counted, receive, fillMis
 use Rattle.protocol.specs.Calls.{isTaken, judgeOpen, judgeReceiving, receiving}
 use Rattle.protocol.specs.Session.{handIn}
 use Rattle.protocol.proofs.Nodes.{sent-node, node-label, sent-has, sent-inv, inner-inv, node-length}
-use Rattle.protocol.proofs.Fill.{IsLabel, fill-length, fill-other, fill-map, fill-none}
+use Rattle.protocol.proofs.Fill.{IsLabel, fill-length, fill-other, fill-map, fill-none, value-default}
 use Rattle.protocol.proofs.Local.{fill-outside, missing-outside, own-outside, missing-length}
 use Rattle.protocol.proofs.Judgement.{Good, good-dealer, Open, open-taken, taken-is}
 use Rattle.protocol.proofs.Reached.{receiving-taken, receiving-refused, receive-good}
@@ -95,3 +97,128 @@ module _ (r : Record) (msg : ℕ → Option (List ℕ)) where
       cases (accepts j)
       (λ t. rw t (member-insert q j (marks j) ∙ rw (ne-eqb q j ne, ih)))
       (λ t. rw t ih))
+
+-- The record with marks of boards below n is good, and the board is open.
+marked-good : (r : Record) → Good r → (t : ℕ) → t < 2 ^ r .plan .n → Good (withTaken r t)
+marked-good r g t h = record {
+  plan-good = g .plan-good;
+  below = g .below;
+  other = g .other;
+  position = g .position;
+  detected-below = g .detected-below;
+  taken-below = h;
+  decision-below = g .decision-below;
+}
+
+module _ (r : Record) (g : Good r) (undecided : r .decided ≡ false) (msg : ℕ → Option (List ℕ)) (cells : List ℕ)
+    (room : cellCount (r .plan .n) ≤ length cells) where
+  abbrev p : Plan
+  p = r .plan
+
+  abbrev l : r .plan .dealer < r .plan .n
+  l = good-dealer r g
+
+  pub marks-below : (j : ℕ) → j ≤ p .n → marks r msg j < 2 ^ p .n
+  unfolding marks
+  marks-below zero h = pow-pos (p .n)
+  marks-below (suc j) h =
+      let ih = marks-below j (omega arith) in
+      cases (accepts r msg j) (λ e. rw e (insert-below (p .n) j (marks r msg j) (omega arith) ih)) (λ e. rw e ih)
+
+  pub heard-length : (j : ℕ) → length (heardCells r msg cells j) ≡ length cells
+  unfolding heardCells
+  heard-length zero = refl
+  heard-length (suc q) =
+      let ih = heard-length q in
+      cases (accepts r msg q)
+      (λ e. rw e (fill-length p l q (sent p q (r .board) (r .round)) (content r msg q) (heardCells r msg cells q) ∙ ih))
+      (λ e. rw e ih)
+
+  -- The board when it has heard the boards below j.
+  abbrev pub heard : ℕ → Board
+  heard j = record { rec = withTaken r (marks r msg j); cells = heardCells r msg cells j }
+
+  heard-open : (j : ℕ) → j ≤ p .n → Open (heard j)
+  heard-open j h = record { good = marked-good r g (marks r msg j) (marks-below j h); room = rw (heard-length j) room; undecided = undecided }
+
+  -- One frame more.
+  judged-due : (q : ℕ) → q < p .n → judgeReceiving (heard q) q ≡ cond (due p q (r .board) (r .round)) (taken []) (refused 14)
+  unfolding judgeReceiving
+  judged-due q h =
+      taken-first (judgeOpen (heard q)) _ (ap (λ o. o .number) (open-taken (heard q) (heard-open q (omega arith))))
+      ∙ ap (λ b. cond (due p q (r .board) (r .round)) (cond b (refused 15) (taken [])) (refused 14)) (marks-low r msg q q (omega arith))
+
+  one-more : (q : ℕ) (o : Option (List ℕ)) → msg q ≡ o → q < p .n → handIn q o (heard q) ≡ heard (suc q)
+  unfolding handIn marks heardCells accepts isGiven content counted
+  one-more q none e h = rw (e, and-false (due p q (r .board) (r .round)))
+  one-more q (some f) e h =
+      cases (due p q (r .board) (r .round))
+      (λ d. receiving-taken (heard q) q f (ap (λ o. o .number) (judged-due q h ∙ ap (λ b. cond b (taken []) (refused 14)) d)) ∙ rw (e, d) (unfold receive in refl))
+      (λ d. receiving-refused (heard q) q f (ap isTaken (judged-due q h ∙ ap (λ b. cond b (taken []) (refused 14)) d) ∙ unfold isTaken in refl) ∙ rw (e, d))
+
+  pub hear-shape : (b : Board) → b ≡ record { rec = withTaken r 0; cells = cells } → (j : ℕ) → j ≤ p .n → hear msg b j ≡ heard j
+  unfolding hear marks heardCells
+  hear-shape b e zero h = e
+  hear-shape b e (suc q) h = ap (handIn q (msg q)) (hear-shape b e q (omega arith)) ∙ one-more q (msg q) refl h
+
+pub value-same : (p : Plan) (x : ℕ) → x < p .span → value p x ≡ x
+unfolding value
+value-same p x h = rw (lt-ltb x (p .span) h)
+
+-- Storing a frame of another board leaves the children of q alone.
+module _ (p : Plan) (l : p .dealer < p .n) (i : ℕ) (k : Round) (low : 1 ≤ k .0) where
+  pub sent-label : (q : ℕ) (α : Label) → q < p .n → List·Memᴰ α (sent p q i k) → IsLabel p l (k .0) (q ∷ α)
+  sent-label q α lq m = node-label p i (k .0) (q ∷ α) (sent-node p i q k α low lq m)
+
+  pub other-sender : (q q′ : ℕ) (vs cells : List ℕ) (b : ℕ) (α : Label) → q ≢ q′ → q′ < p .n → IsLabel p l b (q ∷ α)
+      → cellAt (p .n) (fill p q′ (sent p q′ i k) vs cells) (q ∷ α) ≡ cellAt (p .n) cells (q ∷ α)
+  other-sender q q′ vs cells b α ne lq m =
+      fill-other p l q′ (k .0) (sent p q′ i k) vs cells b (q ∷ α) (λ β w. sent-label q′ β lq w) m (λ β w e. ne (let z : q ≡ q′ = cc in z))
+
+  pub stored-map : (q : ℕ) (g : Label → ℕ) (cells : List ℕ) (α : Label) → q < p .n → cellCount (p .n) ≤ length cells → List·Memᴰ α (sent p q i k)
+      → cellAt (p .n) (fill p q (sent p q i k) (map g (sent p q i k)) cells) (q ∷ α) ≡ value p (g α)
+  stored-map q g cells α lq room m = fill-map p l q (k .0) g (sent p q i k) cells α room (λ β w. sent-label q β lq w) m
+
+  pub stored-none : (q : ℕ) (cells : List ℕ) (α : Label) → q < p .n → cellCount (p .n) ≤ length cells → List·Memᴰ α (sent p q i k)
+      → cellAt (p .n) (fill p q (sent p q i k) [] cells) (q ∷ α) ≡ default p
+  stored-none q cells α lq room m =
+      ap (λ c. cellAt (p .n) c (q ∷ α)) (fill-none p l q (sent p q i k) cells) ∙ stored-map q (λ _. default p) cells α lq room m ∙ value-default p
+
+-- What is missing.
+module _ (r : Record) (l : r .plan .dealer < r .plan .n) (low : 1 ≤ r .round .0) (below : r .board < r .plan .n) (q : ℕ) (α : Label)
+    (m : List·Memᴰ α (sent (r .plan) q (r .board) (r .round))) (lq : q < r .plan .n) where
+  abbrev here : IsLabel (r .plan) l (r .round .0) (q ∷ α)
+  here = sent-label (r .plan) l (r .board) (r .round) low q α lq m
+
+  pub missing-keeps : (j : ℕ) (cells : List ℕ) → j ≤ r .plan .n → member q (r .taken) ≡ true
+      → cellAt (r .plan .n) (fillMissing r j cells) (q ∷ α) ≡ cellAt (r .plan .n) cells (q ∷ α)
+  unfolding fillMissing
+  missing-keeps zero cells h t = refl
+  missing-keeps (suc j) cells h t =
+      let ih = missing-keeps j cells (omega arith) t in
+      cases (due (r .plan) j (r .board) (r .round) && not (member j (r .taken)))
+      (λ e. let out = not-t (member j (r .taken)) (and-r (due (r .plan) j (r .board) (r .round)) (not (member j (r .taken))) e) in
+      let ne : q ≢ j = λ z. clash t (subst (λ x. member x (r .taken) ≡ false) (sym z) out) in
+      rw e (other-sender (r .plan) l (r .board) (r .round) low q j [] (fillMissing r j cells) (r .round .0) α ne h here ∙ ih))
+      (λ e. rw e ih)
+
+  pub missing-default : (j : ℕ) (cells : List ℕ) → j ≤ r .plan .n → q < j → cellCount (r .plan .n) ≤ length cells
+      → due (r .plan) q (r .board) (r .round) ≡ true → member q (r .taken) ≡ false
+      → cellAt (r .plan .n) (fillMissing r j cells) (q ∷ α) ≡ default (r .plan)
+  unfolding fillMissing
+  missing-default zero cells h lt room d t = absurd (omega arith)
+  missing-default (suc j) cells h lt room d t =
+      let rest = fillMissing r j cells in
+      let room′ : cellCount (r .plan .n) ≤ length rest = rw (missing-length r l low below j cells) room in
+      cases (eqb q j)
+      (λ e. let z = eqb-true q j e in
+      let on : (due (r .plan) j (r .board) (r .round) && not (member j (r .taken))) ≡ true =
+      and-true (due (r .plan) j (r .board) (r .round)) (not (member j (r .taken))) (subst (λ x. due (r .plan) x (r .board) (r .round) ≡ true) z d)
+      (true-not (member j (r .taken)) (subst (λ x. member x (r .taken) ≡ false) z t)) in
+      rw on (subst (λ x. cellAt (r .plan .n) (fill (r .plan) x (sent (r .plan) x (r .board) (r .round)) [] rest) (q ∷ α) ≡ default (r .plan)) z
+      (stored-none (r .plan) l (r .board) (r .round) low q rest α lq room′ m)))
+      (λ e. let ne : q ≢ j = eqb-false q j e in
+      let ih = missing-default j cells (omega arith) (omega arith) room d t in
+      cases (due (r .plan) j (r .board) (r .round) && not (member j (r .taken)))
+      (λ x. rw x (other-sender (r .plan) l (r .board) (r .round) low q j [] rest (r .round .0) α ne h here ∙ ih))
+      (λ x. rw x ih))
