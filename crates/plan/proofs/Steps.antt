@@ -48,7 +48,7 @@ round-has p t k h =
     (cases (eqb (t .0) 1) (λ b. rw b (le-leb 1 (k .0) (h .round-low))) (λ b. rw b (le-leb 2 (k .0) (h .round-later (eqb-false (t .0) 1 b)))))
     (le-leb (k .0) (rounds p .0) (h .round-high)))
 
-run-split : (a b : ℕ) → 0 < a → a * b ≡ (a - 1) * b + b
+pub run-split : (a b : ℕ) → 0 < a → a * b ≡ (a - 1) * b + b
 run-split zero b l = absurd (omega arith)
 run-split (suc a) b l = let z : suc a - 1 ≡ a = omega arith in rw z (suc-mul a b)
 

@@ -30,7 +30,7 @@ use Rattle.protocol.specs.Calls.{isTaken, judgeOpen, judgeReceiving, rec
 use Rattle.protocol.specs.Session.{handIn}
 use Rattle.protocol.proofs.Nodes.{sent-node, node-label, sent-has, sent-inv, inner-inv, node-length}
 use Rattle.protocol.proofs.Fill.{IsLabel, fill-length, fill-other, fill-map, fill-none, value-default}
-use Rattle.protocol.proofs.Local.{fill-outside, missing-outside, own-outside, missing-length}
+use Rattle.protocol.proofs.Local.{SameOutside, fill-outside, missing-outside, own-outside, own-length, missing-length}
 use Rattle.protocol.proofs.Judgement.{Good, good-dealer, Open, open-taken, taken-is}
 use Rattle.protocol.proofs.Reached.{receiving-taken, receiving-refused, receive-good}
 
@@ -222,3 +222,134 @@ module _ (r : Record) (l : r .plan .dealer < r .plan .n) (low : 1 ≤ r .round .
       cases (due (r .plan) j (r .board) (r .round) && not (member j (r .taken)))
       (λ x. rw x (other-sender (r .plan) l (r .board) (r .round) low q j [] rest (r .round .0) α ne h here ∙ ih))
       (λ x. rw x ih))
+
+-- A whole round: what a board's cells hold when all frames are stored.
+module _ (r : Record) (g : Good r) (undecided : r .decided ≡ false) (msg : ℕ → Option (List ℕ)) (cells : List ℕ)
+    (room : cellCount (r .plan .n) ≤ length cells) where
+  abbrev P₀ : Plan
+  P₀ = r .plan
+
+  abbrev L₀ : r .plan .dealer < r .plan .n
+  L₀ = good-dealer r g
+
+  abbrev low : 1 ≤ r .round .0
+  low = g .position .round-low
+
+  -- The record when all are heard.
+  abbrev pub marked : Record
+  marked = withTaken r (marks r msg (r .plan .n))
+
+  unfoldable pub stored : List ℕ
+  stored = fillMissing marked (r .plan .n) (heardCells r msg cells (r .plan .n))
+
+  unfoldable pub filled : List ℕ
+  filled = copyOwn marked stored
+
+  heard-outside : (j : ℕ) → j ≤ P₀ .n → SameOutside P₀ L₀ (r .board) (r .round .0) cells (heardCells r msg cells j)
+  unfolding heardCells
+  heard-outside zero h b γ m out = refl
+  heard-outside (suc q) h b γ m out =
+      let ih = heard-outside q (omega arith) b γ m out in
+      cases (accepts r msg q)
+      (λ e. rw e (fill-outside P₀ L₀ (r .board) q (r .round) (content r msg q) (heardCells r msg cells q) low h b γ m out ∙ ih))
+      (λ e. rw e ih)
+
+  stored-outside : SameOutside P₀ L₀ (r .board) (r .round .0) cells stored
+  unfolding stored
+  stored-outside b γ m out =
+      missing-outside marked L₀ low (g .below) (P₀ .n) (heardCells r msg cells (P₀ .n)) (omega arith) b γ m out
+      ∙ heard-outside (P₀ .n) (omega arith) b γ m out
+
+  -- Cells of other levels are as they were.
+  pub filled-outside : SameOutside P₀ L₀ (r .board) (r .round .0) cells filled
+  unfolding filled
+  filled-outside b γ m out = own-outside marked L₀ low (g .below) stored b γ m out ∙ stored-outside b γ m out
+
+  stored-length : length stored ≡ length cells
+  unfolding stored
+  stored-length =
+      missing-length marked L₀ low (g .below) (P₀ .n) (heardCells r msg cells (P₀ .n)) ∙ heard-length r g undecided msg cells room (P₀ .n)
+
+  pub filled-length : length filled ≡ length cells
+  unfolding filled
+  filled-length = own-length marked L₀ low (g .below) stored ∙ stored-length
+
+  module _ (q : ℕ) (α : Label) (lq : q < P₀ .n) (m : List·Memᴰ α (sent P₀ q (r .board) (r .round))) where
+    abbrev label : IsLabel P₀ L₀ (r .round .0) (q ∷ α)
+    label = sent-label P₀ L₀ (r .board) (r .round) low q α lq m
+
+    -- A frame that was taken stands until all are heard.
+    heard-at : (j : ℕ) → j ≤ P₀ .n → q < j → accepts r msg q ≡ true
+        → cellAt (P₀ .n) (heardCells r msg cells j) (q ∷ α)
+        ≡ cellAt (P₀ .n) (fill P₀ q (sent P₀ q (r .board) (r .round)) (content r msg q) (heardCells r msg cells q)) (q ∷ α)
+    unfolding heardCells
+    heard-at zero h lt a = absurd (omega arith)
+    heard-at (suc j) h lt a =
+        cases (eqb q j)
+        (λ e. let z = eqb-true q j e in
+        subst (λ x. cellAt (P₀ .n) (cond (accepts r msg x) (fill P₀ x (sent P₀ x (r .board) (r .round)) (content r msg x) (heardCells r msg cells x)) (heardCells r msg cells x)) (q ∷ α)
+        ≡ cellAt (P₀ .n) (fill P₀ q (sent P₀ q (r .board) (r .round)) (content r msg q) (heardCells r msg cells q)) (q ∷ α)) z (rw a))
+        (λ e. let ne : q ≢ j = eqb-false q j e in
+        let ih = heard-at j (omega arith) (omega arith) a in
+        cases (accepts r msg j)
+        (λ x. rw x (other-sender P₀ L₀ (r .board) (r .round) low q j (content r msg j) (heardCells r msg cells j) (r .round .0) α ne h label ∙ ih))
+        (λ x. rw x ih))
+
+    -- Another board's child is stored before the own copies.
+    own-keeps : q ≢ r .board → cellAt (P₀ .n) filled (q ∷ α) ≡ cellAt (P₀ .n) stored (q ∷ α)
+    unfolding filled copyOwn
+    own-keeps ne =
+        other-sender P₀ L₀ (r .board) (r .round) low q (r .board) (frame P₀ (r .board) (r .board) (r .round) stored) stored (r .round .0) α ne (g .below) label
+
+    heard-room : cellCount (P₀ .n) ≤ length (heardCells r msg cells q)
+    heard-room = rw (heard-length r g undecided msg cells room q) room
+
+    taken-cell : q ≢ r .board → accepts r msg q ≡ true
+        → cellAt (P₀ .n) filled (q ∷ α)
+        ≡ cellAt (P₀ .n) (fill P₀ q (sent P₀ q (r .board) (r .round)) (content r msg q) (heardCells r msg cells q)) (q ∷ α)
+    unfolding stored
+    taken-cell ne a =
+        own-keeps ne
+        ∙ missing-keeps marked L₀ low (g .below) q α m lq (P₀ .n) (heardCells r msg cells (P₀ .n)) (omega arith) (marks-at r msg (P₀ .n) q lq ∙ a)
+        ∙ heard-at (P₀ .n) (omega arith) lq a
+
+    missed-cell : q ≢ r .board → due P₀ q (r .board) (r .round) ≡ true → accepts r msg q ≡ false → cellAt (P₀ .n) filled (q ∷ α) ≡ default P₀
+    unfolding stored
+    missed-cell ne d a =
+        own-keeps ne
+        ∙ missing-default marked L₀ low (g .below) q α m lq (P₀ .n) (heardCells r msg cells (P₀ .n)) (omega arith) lq
+        (rw (heard-length r g undecided msg cells room (P₀ .n)) room) d (marks-at r msg (P₀ .n) q lq ∙ a)
+
+    -- The frame of a board that is not listed, of the right length, is what is read.
+    pub delivered : (f : Label → ℕ) → q ≢ r .board → due P₀ q (r .board) (r .round) ≡ true → member q (r .detected) ≡ false
+        → msg q ≡ some (map f (sent P₀ q (r .board) (r .round))) → f α < P₀ .span → read P₀ filled (q ∷ α) ≡ f α
+    unfolding read accepts isGiven content counted
+    delivered f ne d out e small =
+        let αs = sent P₀ q (r .board) (r .round) in
+        let a : accepts r msg q ≡ true = and-true (due P₀ q (r .board) (r .round)) (isGiven (msg q)) d (rw e) in
+        let c : content r msg q ≡ map f αs = rw (e, out, eq-eqb (length (map f αs)) (length αs) (length-map αs f)) in
+        ap (value P₀) (taken-cell ne a ∙ ap (λ vs. cellAt (P₀ .n) (fill P₀ q αs vs (heardCells r msg cells q)) (q ∷ α)) c
+        ∙ stored-map P₀ L₀ (r .board) (r .round) low q f (heardCells r msg cells q) α lq heard-room m)
+        ∙ ap (value P₀) (value-same P₀ (f α) small) ∙ value-same P₀ (f α) small
+
+    -- A listed board counts as silent.
+    pub silenced : q ≢ r .board → due P₀ q (r .board) (r .round) ≡ true → member q (r .detected) ≡ true → read P₀ filled (q ∷ α) ≡ default P₀
+    unfolding read content counted
+    silenced ne d on =
+        let αs = sent P₀ q (r .board) (r .round) in
+        cases (accepts r msg q)
+        (λ a. let c : content r msg q ≡ [] = rw on (ap (λ b. cond b (Option·getD (msg q) []) []) (and-false (eqb (length (Option·getD (msg q) [])) (length αs)))) in
+        ap (value P₀) (taken-cell ne a ∙ ap (λ vs. cellAt (P₀ .n) (fill P₀ q αs vs (heardCells r msg cells q)) (q ∷ α)) c
+        ∙ stored-none P₀ L₀ (r .board) (r .round) low q (heardCells r msg cells q) α lq heard-room m) ∙ value-default P₀)
+        (λ a. ap (value P₀) (missed-cell ne d a) ∙ value-default P₀)
+
+  -- A board's own child has its own cell.
+  pub copied : (α : Label) (b : ℕ) → List·Memᴰ α (sent P₀ (r .board) (r .board) (r .round)) → IsLabel P₀ L₀ b α → (List·Memᴰ α (nodes P₀ (r .board) (r .round .0)) → ⊥)
+      → 0 < P₀ .span → read P₀ filled (r .board ∷ α) ≡ read P₀ cells α
+  unfolding filled copyOwn frame read
+  copied α b m w out some-value =
+      let own : cellAt (P₀ .n) filled (r .board ∷ α) ≡ value P₀ (read P₀ stored α) =
+      stored-map P₀ L₀ (r .board) (r .round) low (r .board) (read P₀ stored) stored α (g .below) (rw stored-length room) m in
+      let same : read P₀ stored α ≡ read P₀ cells α = ap (value P₀) (stored-outside b α w out) in
+      let small = read-small P₀ some-value cells α in
+      ap (value P₀) (own ∙ ap (value P₀) same ∙ value-same P₀ (read P₀ cells α) small) ∙ value-same P₀ (read P₀ cells α) small
