@@ -1,15 +1,15 @@
 -- The synchronous session, step by step: where each healthy board stands, and what it is after the next step.
 -- Assumes nothing.
 use Prim.Native.Nat.{ℕ, zero, suc, _+_, _-_, _*_, _≤_, _<_, _^_}
-use mathlib.Core.Path.{_≡_, refl, sym, _∙_, ap, subst}
+use mathlib.Core.Path.{_≡_, refl, sym, _∙_, ap, ap₂, subst}
 use mathlib.Core.Logic.{_≢_, _⊎_, inl, inr, ⊎-elim}
 use mathlib.Core.Bool.{Bool, true, false, not, _&&_, _||_, cond}
 use mathlib.Core.List.{List, [], _∷_, _++_, map, List·Memᴰ}
 use mathlib.Core.Option.{Option, some, none}
 use native.Mathlib.Omega.{arith}
-use native.Mathlib.Nat.{suc-mul}
+use native.Mathlib.Nat.{zero-mul}
 use lib.Dec.{eqb, leb, ltb}
-use lib.ListN.{length, getD, drop, replicate}
+use lib.ListN.{length, getD, drop, replicate, length-append, length-replicate}
 use borrow.Author.Tests.{eqb-true, eqb-false, eq-eqb, ne-eqb, ltb-true, ltb-false, lt-ltb, le-ltb}
 use Rattle.sets.specs.Sets.{member}
 use Rattle.sets.proofs.Tests.{cases, clash, and-l, and-r, and-true, not-t, true-not}
@@ -28,7 +28,9 @@ use Rattle.protocol.specs.Calls.{isTaken, judgeBoard, judgeCells, judgeB
 use Rattle.protocol.specs.Session.{table, Adversary, Setting, Boards, nobody, boardAt, begun, hears, handIn, hearAll, session, at}
 use Rattle.protocol.specs.Lists.{keeper, Sound}
 use Rattle.protocol.proofs.Judgement.{plan-facts, Good, Open, open-taken, board-taken, cells-taken, taken-is}
-use Rattle.protocol.proofs.Reached.{closing-taken}
+use Rattle.protocol.proofs.Reached.{closing-taken, fresh-good, close-good, close-length, close-plan}
+use Rattle.plan.proofs.Outcomes.{taken-first}
+use Rattle.plan.proofs.Levels.{rounds-pos, runs-pos}
 use Rattle.protocol.proofs.Hearing.{withTaken, hear, marks, heardCells, hear-shape}
 
 pub table-at : {A : Type 0} (f : ℕ → A) (k i c : ℕ) (x : A) → c < k → getD (table f i k) c x ≡ f (i + c)
@@ -97,3 +99,79 @@ module _ (p : Plan) where
       let less : t .0 + 1 - 1 ≡ t .0 = omega arith in
       let z : step p t′ k′ ≡ suc (step p t k) = ap (λ x. x * w + 2) less ∙ omega arith in
       (ap (stepRun p) (sym z) ∙ run-of-step p t′ k′ h′, ap (stepRound p) (sym z) ∙ round-of-step p t′ k′ h′)
+
+-- Where a healthy board that keeps cells stands before the last step.
+module _ (s : Setting) (a : Adversary) (sound : Sound s) where
+  abbrev plan : Plan
+  plan = s .plan
+
+  -- The record of board i in step j, counted from 0, with a list.
+  abbrev pub canon : ℕ → ℕ → ℕ → Record
+  canon i j detected = record {
+    plan = plan;
+    board = i;
+    run = stepRun plan (suc j);
+    round = stepRound plan (suc j);
+    detected = detected;
+    taken = 0;
+    decided = false;
+    decision = 0;
+  }
+
+  pub record Standing (j i : ℕ) : Type 0 where
+    pub shape : at s a j i .rec ≡ canon i j (at s a j i .rec .detected)
+    pub good : Good (at s a j i .rec)
+    pub room : cellCount (plan .n) ≤ length (at s a j i .cells)
+
+  pub keeper-facts : (i : ℕ) → keeper s i ≡ true → (i < plan .n) × (member i (s .faulty) ≡ false) × (i ≢ plan .dealer)
+  unfolding keeper
+  keeper-facts i e =
+      let b = ltb i (plan .n) in
+      let f = not (member i (s .faulty)) in
+      let d = not (eqb i (plan .dealer)) in
+      let rest = and-r b (f && d) e in
+      (ltb-true i (plan .n) (and-l b (f && d) e), not-t (member i (s .faulty)) (and-l f d rest), eqb-false i (plan .dealer) (not-t (eqb i (plan .dealer)) (and-r f d rest)))
+
+  -- Board i as its beginning left it.
+  pub begun-shape : (i : ℕ) → keeper s i ≡ true
+      → begun s i ≡ record { rec = freshRecord plan i; cells = replicate (cellCount (plan .n)) blank ++ drop (cellCount (plan .n)) (s .buffer i) }
+  unfolding begun beginning judgeBeginning andThen
+  begun-shape i k =
+      let (l, _, ne) = keeper-facts i k in
+      let e : judgeBeginning plan i (s .buffer i) .number ≡ 0 =
+      ap (λ o. o .number) (taken-first (judged plan) _ (sound .accepted) ∙ taken-first (judgeBoard plan i) _ (ap (λ o. o .number) (board-taken plan i l ne))
+      ∙ cells-taken plan (s .buffer i) (sound .cells-enough i k)) in
+      rw (taken-is (judgeBeginning plan i (s .buffer i)) e)
+
+  first-position : (stepRun plan 1 ≡ record { 0 = 1 }) × (stepRound plan 1 ≡ record { 0 = 1 })
+  unfolding step
+  first-position =
+      let t : Run = record { 0 = 1 } in
+      let k : Round = record { 0 = 1 } in
+      let h : Has plan t k = record {
+        run-low = omega arith;
+        run-high = runs-pos plan;
+        round-low = omega arith;
+        round-later = λ x. absurd (x refl);
+        round-high = rounds-pos plan;
+      } in
+      let z : step plan t k ≡ 1 = omega (arith, zero-mul (rounds plan .0 - 1)) in
+      (ap (stepRun plan) (sym z) ∙ run-of-step plan t k h, ap (stepRound plan) (sym z) ∙ round-of-step plan t k h)
+
+  pub standing-start : (i : ℕ) → keeper s i ≡ true → Standing 0 i
+  unfolding freshRecord
+  standing-start i k =
+      let (l, _, ne) = keeper-facts i k in
+      let e = at-start s a i l ∙ begun-shape i k in
+      let cells = replicate (cellCount (plan .n)) blank ++ drop (cellCount (plan .n)) (s .buffer i) in
+      let b : Board = record { rec = freshRecord plan i; cells = cells } in
+      record {
+        shape = subst (λ x. x .rec ≡ canon i 0 (x .rec .detected)) (sym e)
+            (ap₂ (λ (t : Run) (r : Round). record-at i t r) (sym (first-position .0)) (sym (first-position .1)));
+        good = subst (λ x. Good (x .rec)) (sym e) (fresh-good plan i (sound .accepted) l ne);
+        room = subst (λ x. cellCount (plan .n) ≤ length (x .cells)) (sym e)
+            (omega (arith, length-append (replicate (cellCount (plan .n)) blank) (drop (cellCount (plan .n)) (s .buffer i)), length-replicate (cellCount (plan .n)) blank));
+      }
+    where
+      record-at : ℕ → Run → Round → Record
+      record-at i t r = record { plan = plan; board = i; run = t; round = r; detected = 0; taken = 0; decided = false; decision = 0 }
