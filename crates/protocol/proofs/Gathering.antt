@@ -1,21 +1,20 @@
 -- Rule FD1 over the nodes of a level: lists grow, a cell that changes is masked, a board that is not listed in the end was spared at
 -- each of its nodes, and no healthy board is listed.
 -- Assumes nothing.
-use Prim.Native.Nat.{ℕ, zero, suc, _+_, _-_, _≤_, _<_, _^_}
+use Prim.Native.Nat.{ℕ, zero, suc, _-_, _≤_, _<_}
 use mathlib.Core.Path.{_≡_, refl, sym, _∙_, ap, subst}
-use mathlib.Core.Logic.{_≢_, _⊎_, inl, inr, ⊎-elim}
-use mathlib.Core.Bool.{Bool, true, false, not, _&&_, _||_, cond}
+use mathlib.Core.Logic.{_⊎_, inl, inr, ⊎-elim}
+use mathlib.Core.Bool.{true, false, not, _&&_, _||_}
 use mathlib.Core.List.{List, [], _∷_, List·Memᴰ, List·Memᴰ·head, List·Memᴰ·tail, List·Memᴰ·cases-cons, List·Memᴰ·not-nil}
-use mathlib.Core.Option.{Option, some, none}
+use mathlib.Core.Option.{Option, some}
 use native.Mathlib.Omega.{arith}
-use lib.Dec.{eqb, ltb}
+use lib.Dec.{eqb}
 use lib.ListN.{length}
-use borrow.Author.Tests.{eqb-true, eqb-false, eq-eqb}
-use Rattle.sets.specs.Search.{any}
-use Rattle.sets.specs.Sets.{member, insert, setOf}
+use borrow.Author.Tests.{eqb-true, eq-eqb}
+use Rattle.sets.specs.Sets.{member, setOf}
 use Rattle.sets.specs.Structure.{tolerated}
 use Rattle.sets.specs.Only.{same}
-use Rattle.sets.proofs.Tests.{cases, clash, is-false, is-true, and-l, and-r, and-true, or-true, or-l, or-r, or-left, or-right, not-t, true-not}
+use Rattle.sets.proofs.Tests.{cases, clash, is-false, is-true, and-l, and-r, or-true, or-r, or-left, or-right, not-t}
 use Rattle.sets.proofs.Search.{any-true}
 use Rattle.sets.proofs.Member.{member-insert}
 use Rattle.plan.specs.declared.plan.Plan.{Plan}
@@ -27,11 +26,11 @@ use Rattle.tree.proofs.Cells.{store-length, store-same, store-other}
 use Rattle.theory.specs.Tree as T
 use Rattle.theory.specs.Runs as R
 use Rattle.theory.proofs.Soundness.{spared}
-use Rattle.protocol.specs.Nodes.{default, value, read, internal, nodes, inner}
+use Rattle.protocol.specs.Nodes.{default, value, read, nodes, inner}
 use Rattle.protocol.specs.Detection.{explained, byCell, join, passes, Scan, maskBoard, detect1, detectAll1}
 use Rattle.protocol.proofs.Nodes.{no-node, inner-inv, node-label, node-has}
 use Rattle.protocol.proofs.Fill.{IsLabel, label-dec, value-default}
-use Rattle.protocol.proofs.Local.{mask-length, detect1-length}
+use Rattle.protocol.proofs.Local.{detect1-length}
 use Rattle.protocol.proofs.Instance.{tol, tol-mono, inst}
 
 -- The list as a test.

@@ -1,38 +1,37 @@
 -- A round of a board that hears some frames: what its cells hold when rule FD1 begins.
 -- Assumes nothing.
-use Prim.Native.Nat.{ℕ, zero, suc, _+_, _-_, _≤_, _<_, _^_}
+use Prim.Native.Nat.{ℕ, zero, suc, _≤_, _<_, _^_}
 use mathlib.Core.Path.{_≡_, refl, sym, _∙_, ap, subst}
-use mathlib.Core.Logic.{_≢_, _⊎_, inl, inr, ⊎-elim}
-use mathlib.Core.Bool.{Bool, true, false, not, _&&_, _||_, cond, and-false}
+use mathlib.Core.Logic.{_≢_}
+use mathlib.Core.Bool.{Bool, true, false, not, _&&_, cond, and-false}
 use mathlib.Core.List.{List, [], _∷_, map, List·Memᴰ}
 use mathlib.Core.Option.{Option, some, none, Option·getD}
 use native.Mathlib.Omega.{arith}
-use lib.Dec.{eqb, ltb}
+use lib.Dec.{eqb}
 use lib.ListN.{length, length-map}
 use lib.Pow.{pow-pos}
 use Rattle.protocol.proofs.Bounds.{insert-below, read-small}
-use borrow.Author.Tests.{eqb-true, eqb-false, eq-eqb, ne-eqb, ltb-true, lt-ltb}
+use borrow.Author.Tests.{eqb-true, eqb-false, eq-eqb, ne-eqb, lt-ltb}
 use Rattle.sets.specs.Sets.{member, insert}
-use Rattle.sets.specs.Structure.{isSome}
-use Rattle.sets.proofs.Tests.{cases, clash, is-false, is-true, and-l, and-r, and-true, or-true, or-l, or-r, not-t, true-not}
+use Rattle.sets.proofs.Tests.{cases, clash, and-r, and-true, not-t, true-not}
 use Rattle.sets.proofs.Member.{member-insert, member-empty}
 use Rattle.plan.specs.declared.plan.Plan.{Plan}
 use Rattle.plan.specs.declared.schedule.Round.{Round}
-use Rattle.plan.specs.Outcome.{Outcome, taken, refused}
+use Rattle.plan.specs.Outcome.{taken, refused}
 use Rattle.plan.proofs.Outcomes.{taken-first}
-use Rattle.tree.specs.Labels.{Label, occurs}
+use Rattle.tree.specs.Labels.{Label}
 use Rattle.tree.specs.Places.{cellCount}
 use Rattle.tree.specs.Cells.{cellAt}
 use Rattle.protocol.specs.declared.records.Record.{Record}
-use Rattle.protocol.specs.Nodes.{default, value, read, nodes, inner, sent, due, frame}
+use Rattle.protocol.specs.Nodes.{default, value, read, nodes, sent, due, frame}
 use Rattle.protocol.specs.Rounds.{Board, fill, counted, receive, fillMissing, copyOwn}
-use Rattle.protocol.specs.Calls.{isTaken, judgeOpen, judgeReceiving, receiving}
+use Rattle.protocol.specs.Calls.{isTaken, judgeOpen, judgeReceiving}
 use Rattle.protocol.specs.Session.{handIn}
-use Rattle.protocol.proofs.Nodes.{sent-node, node-label, sent-has, sent-inv, inner-inv, node-length}
+use Rattle.protocol.proofs.Nodes.{sent-node, node-label}
 use Rattle.protocol.proofs.Fill.{IsLabel, fill-length, fill-other, fill-map, fill-none, value-default}
 use Rattle.protocol.proofs.Local.{SameOutside, fill-outside, missing-outside, own-outside, own-length, missing-length}
-use Rattle.protocol.proofs.Judgement.{Good, good-dealer, Open, open-taken, taken-is}
-use Rattle.protocol.proofs.Reached.{receiving-taken, receiving-refused, receive-good}
+use Rattle.protocol.proofs.Judgement.{Good, good-dealer, Open, open-taken}
+use Rattle.protocol.proofs.Reached.{receiving-taken, receiving-refused}
 
 -- A record with other marks.
 abbrev pub withTaken : Record → ℕ → Record
@@ -138,7 +137,7 @@ module _ (r : Record) (g : Good r) (undecided : r .decided ≡ false) (msg : ℕ
   abbrev pub heard : ℕ → Board
   heard j = record { rec = withTaken r (marks r msg j); cells = heardCells r msg cells j }
 
-  heard-open : (j : ℕ) → j ≤ p .n → Open (heard j)
+  pub heard-open : (j : ℕ) → j ≤ p .n → Open (heard j)
   heard-open j h = record { good = marked-good r g (marks r msg j) (marks-below j h); room = rw (heard-length j) room; undecided = undecided }
 
   -- One frame more.

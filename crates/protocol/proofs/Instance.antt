@@ -1,30 +1,27 @@
 -- A plan of the protocol is a plan of the agreement theory, and a board resolves as the theory has it.
 -- Assumes nothing.
-use Prim.Native.Nat.{ℕ, zero, suc, _+_, _-_, _≤_, _<_, _^_}
+use Prim.Native.Nat.{ℕ, zero, suc, _+_, _-_, _<_, _^_}
 use mathlib.Core.Path.{_≡_, refl, sym, _∙_, ap, subst}
-use mathlib.Core.Logic.{_≢_, _⊎_, inl, inr, ⊎-elim}
-use mathlib.Core.Bool.{Bool, true, false, not, _&&_, _||_, cond}
+use mathlib.Core.Logic.{⊎-elim}
+use mathlib.Core.Bool.{Bool, true, false, not, _&&_, cond}
 use mathlib.Core.List.{List, [], _∷_, List·Memᴰ}
 use mathlib.Core.Option.{Option, some, none}
 use native.Mathlib.Omega.{arith}
 use lib.Dec.{eqb, ltb}
 use lib.ListN.{length, getD}
-use borrow.Author.Tests.{lt-ltb, ltb-true, eqb-true, eqb-false}
-use Rattle.sets.specs.Search.{count}
-use Rattle.sets.specs.Sets.{member, setOf, insert, size}
+use borrow.Author.Tests.{lt-ltb, eqb-true}
+use Rattle.sets.specs.Sets.{member, setOf}
 use Rattle.sets.specs.Structure.{tolerated}
-use Rattle.sets.specs.Only.{only, same}
-use Rattle.sets.proofs.Tests.{cases, clash, is-false, is-true, and-l, and-r, and-true, or-true, or-l, or-r, same-test}
-use Rattle.sets.proofs.Member.{member-setOf, setOf-below, size-count}
-use Rattle.sets.proofs.Tolerated.{tolerated-mono, tolerated-empty}
+use Rattle.sets.specs.Only.{same}
+use Rattle.sets.proofs.Tests.{cases, clash, is-false, and-l, and-r, and-true, or-true, same-test}
+use Rattle.sets.proofs.Member.{member-setOf, setOf-below}
+use Rattle.sets.proofs.Tolerated.{tolerated-mono}
 use Rattle.sets.proofs.Only.{only-same}
-use Rattle.sets.proofs.Count.{count-same}
 use Rattle.plan.specs.declared.plan.Plan.{Plan}
-use Rattle.plan.specs.Schedule.{listed, rounds, height, isCut}
+use Rattle.plan.specs.Schedule.{listed, rounds}
 use Rattle.plan.specs.Calls.{judged}
 use Rattle.plan.proofs.ThreeCover.{q3}
-use Rattle.plan.proofs.Height.{height-most}
-use Rattle.plan.proofs.Levels.{rounds-full, rounds-pos}
+use Rattle.plan.proofs.Levels.{rounds-pos}
 use Rattle.tree.specs.Labels.{Label, occurs, mask}
 use Rattle.tree.proofs.Masks.{mask-member, mask-lt}
 use Rattle.theory.specs.Tree as T

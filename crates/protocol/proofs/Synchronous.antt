@@ -1,37 +1,38 @@
 -- The synchronous session, step by step: where each healthy board stands, and what it is after the next step.
 -- Assumes nothing.
-use Prim.Native.Nat.{ℕ, zero, suc, _+_, _-_, _*_, _≤_, _<_, _^_}
+use Prim.Native.Nat.{ℕ, zero, suc, _+_, _-_, _*_, _≤_, _<_}
 use mathlib.Core.Path.{_≡_, refl, sym, _∙_, ap, ap₂, subst}
-use mathlib.Core.Logic.{_≢_, _⊎_, inl, inr, ⊎-elim}
-use mathlib.Core.Bool.{Bool, true, false, not, _&&_, _||_, cond}
-use mathlib.Core.List.{List, [], _∷_, _++_, map, List·Memᴰ}
-use mathlib.Core.Option.{Option, some, none}
+use mathlib.Core.Logic.{_≢_}
+use mathlib.Core.Bool.{true, false, not, _&&_}
+use mathlib.Core.List.{List, _++_}
+use mathlib.Core.Option.{Option}
 use native.Mathlib.Omega.{arith}
 use native.Mathlib.Nat.{zero-mul}
-use lib.Dec.{eqb, leb, ltb}
+use lib.Dec.{eqb, ltb}
 use lib.ListN.{length, getD, drop, replicate, length-append, length-replicate}
-use borrow.Author.Tests.{eqb-true, eqb-false, eq-eqb, ne-eqb, ltb-true, ltb-false, lt-ltb, le-ltb}
+use borrow.Author.Tests.{eqb-false, ne-eqb, ltb-true, ltb-false, lt-ltb, le-ltb}
 use Rattle.sets.specs.Sets.{member}
-use Rattle.sets.proofs.Tests.{cases, clash, and-l, and-r, and-true, not-t, true-not}
+use Rattle.sets.proofs.Tests.{cases, and-l, and-r, not-t}
 use Rattle.plan.specs.declared.plan.Plan.{Plan}
 use Rattle.plan.specs.declared.schedule.Run.{Run}
 use Rattle.plan.specs.declared.schedule.Round.{Round}
 use Rattle.plan.specs.Schedule.{rounds, runs, steps, step, stepRun, stepRound}
 use Rattle.plan.specs.Outcome.{taken}
 use Rattle.plan.specs.Calls.{andThen, judged}
-use Rattle.plan.proofs.Steps.{Has, run-split, step-high, run-of-step, round-of-step, step-has, step-of-round, later-rounds}
+use Rattle.plan.proofs.Steps.{Has, run-split, run-of-step, round-of-step, step-has, step-of-round, later-rounds}
 use Rattle.tree.specs.Places.{cellCount}
 use Rattle.tree.specs.Cells.{blank}
 use Rattle.protocol.specs.declared.records.Record.{Record}
 use Rattle.protocol.specs.Rounds.{Board, gather, nextRound, convert, close}
-use Rattle.protocol.specs.Calls.{isTaken, judgeBoard, judgeCells, judgeBeginning, freshRecord, beginning, closing}
+use Rattle.protocol.specs.Calls.{judgeBoard, judgeBeginning, freshRecord, beginning, closing}
 use Rattle.protocol.specs.Session.{table, Adversary, Setting, Boards, nobody, boardAt, begun, hears, handIn, hearAll, session, at}
 use Rattle.protocol.specs.Lists.{keeper, Sound}
-use Rattle.protocol.proofs.Judgement.{plan-facts, Good, Open, open-taken, board-taken, cells-taken, taken-is}
-use Rattle.protocol.proofs.Reached.{closing-taken, fresh-good, close-good, close-length, close-plan}
+use Rattle.protocol.proofs.Judgement.{Good, Open, open-taken, board-taken, cells-taken, taken-is}
+use Rattle.protocol.proofs.Reached.{closing-taken, fresh-good, close-good, close-length}
 use Rattle.plan.proofs.Outcomes.{taken-first}
 use Rattle.plan.proofs.Levels.{rounds-pos, runs-pos}
-use Rattle.protocol.proofs.Hearing.{withTaken, hear, marks, heardCells, hear-shape}
+use Rattle.protocol.proofs.Hearing.{withTaken, hear, marks, heardCells, heard-open, hear-shape}
+use Rattle.protocol.specs.Detection.{detectLevels}
 
 pub table-at : {A : Type 0} (f : ℕ → A) (k i c : ℕ) (x : A) → c < k → getD (table f i k) c x ≡ f (i + c)
 unfolding table
@@ -118,6 +119,10 @@ module _ (s : Setting) (a : Adversary) (sound : Sound s) where
     decision = 0;
   }
 
+  -- A record in its run and round.
+  record-of : ℕ → Run → Round → ℕ → Record
+  record-of i t q detected = record { plan = plan; board = i; run = t; round = q; detected = detected; taken = 0; decided = false; decision = 0 }
+
   pub record Standing (j i : ℕ) : Type 0 where
     pub shape : at s a j i .rec ≡ canon i j (at s a j i .rec .detected)
     pub good : Good (at s a j i .rec)
@@ -159,7 +164,7 @@ module _ (s : Setting) (a : Adversary) (sound : Sound s) where
       (ap (stepRun plan) (sym z) ∙ run-of-step plan t k h, ap (stepRound plan) (sym z) ∙ round-of-step plan t k h)
 
   pub standing-start : (i : ℕ) → keeper s i ≡ true → Standing 0 i
-  unfolding freshRecord
+  unfolding freshRecord record-of
   standing-start i k =
       let (l, _, ne) = keeper-facts i k in
       let e = at-start s a i l ∙ begun-shape i k in
@@ -167,11 +172,91 @@ module _ (s : Setting) (a : Adversary) (sound : Sound s) where
       let b : Board = record { rec = freshRecord plan i; cells = cells } in
       record {
         shape = subst (λ x. x .rec ≡ canon i 0 (x .rec .detected)) (sym e)
-            (ap₂ (λ (t : Run) (r : Round). record-at i t r) (sym (first-position .0)) (sym (first-position .1)));
+            (ap₂ (λ (t : Run) (q : Round). record-of i t q 0) (sym (first-position .0)) (sym (first-position .1)));
         good = subst (λ x. Good (x .rec)) (sym e) (fresh-good plan i (sound .accepted) l ne);
         room = subst (λ x. cellCount (plan .n) ≤ length (x .cells)) (sym e)
             (omega (arith, length-append (replicate (cellCount (plan .n)) blank) (drop (cellCount (plan .n)) (s .buffer i)), length-replicate (cellCount (plan .n)) blank));
       }
-    where
-      record-at : ℕ → Run → Round → Record
-      record-at i t r = record { plan = plan; board = i; run = t; round = r; detected = 0; taken = 0; decided = false; decision = 0 }
+
+  -- The board in step j when it has heard all frames.
+  module _ (j i : ℕ) (k : keeper s i ≡ true) (st : Standing j i) (more : j < steps plan) where
+    abbrev pub r : Record
+    r = canon i j (at s a j i .rec .detected)
+
+    abbrev pub cells : List ℕ
+    cells = at s a j i .cells
+
+    pub good-r : Good r
+    good-r = subst Good (st .shape) (st .good)
+
+    -- The record with its marks, and the cells, as closing begins.
+    abbrev pub ready : Board
+    ready = record { rec = withTaken r (marks r (told s a i j) (plan .n)); cells = heardCells r (told s a i j) cells (plan .n) }
+
+    pub ready-open : Open ready
+    ready-open = heard-open r good-r refl (told s a i j) cells (st .room) (plan .n) (omega arith)
+
+    pub heard-all : hear (told s a i j) (at s a j i) (plan .n) ≡ ready
+    heard-all =
+        hear-shape r good-r refl (told s a i j) cells (st .room) (at s a j i)
+        (ap (λ x. board-of x cells) (st .shape)) (plan .n) (omega arith)
+      where
+        board-of : Record → List ℕ → Board
+        board-of x c = record { rec = x; cells = c }
+
+    pub after-step : at s a (suc j) i ≡ close ready
+    after-step =
+        at-next s a i j (keeper-facts i k .0) ∙ ap (λ b. closing b .board) heard-all
+        ∙ closing-taken ready (ap (λ o. o .number) (open-taken ready ready-open))
+
+    pub position : Has plan (stepRun plan (suc j)) (stepRound plan (suc j))
+    position = step-has plan (suc j) (omega arith) more
+
+    pub number : step plan (stepRun plan (suc j)) (stepRound plan (suc j)) ≡ suc j
+    number = step-of-round plan (suc j) (omega arith) more
+
+    -- Within a run.
+    pub close-next : stepRound plan (suc j) .0 < rounds plan .0 → close ready ≡ nextRound (ready .rec) (gather ready)
+    unfolding close
+    close-next l = rw (lt-ltb (stepRound plan (suc j) .0) (rounds plan .0) l)
+
+    pub close-last : rounds plan .0 ≤ stepRound plan (suc j) .0 → close ready ≡ convert (ready .rec) (gather ready)
+    unfolding close
+    close-last l = rw (le-ltb (stepRound plan (suc j) .0) (rounds plan .0) l)
+
+    same-record : (detected : ℕ) {t t′ : Run} {q q′ : Round} → t ≡ t′ → q ≡ q′ → record-of i t q detected ≡ record-of i t′ q′ detected
+    same-record detected e f = ap₂ (λ (t : Run) (q : Round). record-of i t q detected) e f
+
+    pub next-shape : suc j < steps plan → close ready .rec ≡ canon i (suc j) (close ready .rec .detected)
+    unfolding nextRound convert record-of
+    next-shape l =
+        let t = stepRun plan (suc j) in
+        let q = stepRound plan (suc j) in
+        cases (ltb (q .0) (rounds plan .0))
+        (λ e. let lt = ltb-true (q .0) (rounds plan .0) e in
+        let (x, y) = next-position plan t q position lt in
+        rw (close-next lt) (same-record (gather ready .detected) (sym (ap (λ z. stepRun plan (suc z)) (sym number) ∙ x)) (sym (ap (λ z. stepRound plan (suc z)) (sym number) ∙ y))))
+        (λ e. let ge = ltb-false (q .0) (rounds plan .0) e in
+        let last : q .0 ≡ rounds plan .0 = omega (arith, position .round-high) in
+        let ne : t .0 ≢ runs plan .0 = λ z. end l z last in
+        let (x, y) = next-run plan t q (sound .accepted) position last (omega (arith, position .run-high)) in
+        rw (close-last ge, ne-eqb (t .0) (runs plan .0) ne)
+        (same-record (detectLevels plan i (gather ready .cells) (rounds plan .0 - 1) (gather ready .detected))
+        (sym (ap (λ z. stepRun plan (suc z)) (sym number) ∙ x)) (sym (ap (λ z. stepRound plan (suc z)) (sym number) ∙ y))))
+      where
+        end : suc j < steps plan → stepRun plan (suc j) .0 ≡ runs plan .0 → stepRound plan (suc j) .0 ≡ rounds plan .0 → ⊥
+        end l x y =
+            unfold step steps in
+            let m : (stepRun plan (suc j) .0 - 1) * (rounds plan .0 - 1) ≡ (runs plan .0 - 1) * (rounds plan .0 - 1) = ap (λ z. (z - 1) * (rounds plan .0 - 1)) x in
+            omega (arith, number)
+
+    pub standing-next : suc j < steps plan → Standing (suc j) i
+    standing-next l = record {
+      shape = subst (λ b. b .rec ≡ canon i (suc j) (b .rec .detected)) (sym after-step) (next-shape l);
+      good = subst (λ b. Good (b .rec)) (sym after-step) (close-good ready (ready-open .good));
+      room = subst (λ b. cellCount (plan .n) ≤ length (b .cells)) (sym after-step) (rw (close-length ready ready-open) (ready-open .room));
+    }
+
+  pub standing : (j i : ℕ) → keeper s i ≡ true → j < steps plan → Standing j i
+  standing zero i k l = standing-start i k
+  standing (suc j) i k l = standing-next j i k (standing j i k (omega arith)) (omega arith) l
