@@ -1,9 +1,9 @@
 -- Which labels are nodes, and which nodes a board sends.
 -- Assumes nothing.
 use Prim.Native.Nat.{ℕ, zero, suc, _-_, _≤_, _<_}
-use mathlib.Core.Path.{_≡_, refl, sym, subst}
+use mathlib.Core.Path.{_≡_, refl, sym, subst, ap}
 use mathlib.Core.Logic.{_≢_, ⊎-elim}
-use mathlib.Core.Bool.{Bool, true, false, not}
+use mathlib.Core.Bool.{Bool, true, false, not, cond}
 use mathlib.Core.List.{List, [], _∷_, List·Memᴰ, List·Memᴰ·head, List·Memᴰ·tail, List·Memᴰ·cases-cons, List·Memᴰ·not-nil, List·Memᴰ·eq-of-singleton}
 use native.Mathlib.Omega.{arith}
 use lib.Dec.{eqb}
@@ -12,7 +12,7 @@ use borrow.Author.Tests.{eqb-true, eqb-false, eq-eqb, ne-eqb}
 use Rattle.sets.proofs.Tests.{cases, not-t, true-not}
 use Rattle.plan.specs.declared.plan.Plan.{Plan}
 use Rattle.plan.specs.declared.schedule.Round.{Round}
-use Rattle.tree.specs.Labels.{Label, occurs, labels}
+use Rattle.tree.specs.Labels.{Label, occurs, labels, childrenOf}
 use Rattle.tree.proofs.Labels.{ChildBelow, of-child, child-of, root-has, label-has, label-length}
 use Rattle.protocol.specs.Nodes.{filter, internal, nodes, inner, sent}
 
@@ -111,3 +111,19 @@ module _ (p : Plan) (i : ℕ) where
       let y : k .0 - 1 ≡ suc (k .0 - 2) = omega arith in
       subst (λ x. List·Memᴰ (q ∷ α) (nodes p i x)) (sym z)
       (node-has (k .0 - 2) α q (subst (λ x. List·Memᴰ α (inner p i x)) y w) l a))
+
+-- Nodes are the same for all boards.
+pub nodes-same : (p : Plan) (i j k : ℕ) → nodes p i k ≡ nodes p j k
+unfolding nodes internal
+nodes-same p i j zero = refl
+nodes-same p i j (suc zero) = refl
+nodes-same p i j (suc (suc k)) = ap (λ αs. childrenOf (p .n) (filter (internal p i) αs)) (nodes-same p i j (suc k))
+
+pub inner-same : (p : Plan) (i j k : ℕ) → inner p i k ≡ inner p j k
+unfolding inner internal
+inner-same p i j k = ap (filter (internal p i)) (nodes-same p i j k)
+
+pub sent-same : (p : Plan) (q i j : ℕ) (k : Round) → sent p q i k ≡ sent p q j k
+unfolding sent
+sent-same p q i j k =
+    ap (λ αs. cond (eqb (k .0) 1) (cond (eqb q (p .dealer)) ([] ∷ []) []) (filter (λ α. not (occurs q α)) αs)) (inner-same p i j (k .0 - 1))
