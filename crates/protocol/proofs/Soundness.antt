@@ -1,0 +1,151 @@
+-- Lists hold faulty boards only, and healthy boards have one another's cells, after every step of the session.
+-- Assumes nothing.
+use Prim.Native.Nat.{ℕ, zero, suc, _+_, _-_, _≤_, _<_, _^_}
+use mathlib.Core.Path.{_≡_, refl, sym, _∙_, ap, subst}
+use mathlib.Core.Logic.{_≢_, _⊎_, inl, inr, ⊎-elim}
+use mathlib.Core.Bool.{Bool, true, false, not, _&&_, cond}
+use mathlib.Core.List.{List, [], _∷_, map, List·Memᴰ, List·Memᴰ·head, List·Memᴰ·not-nil}
+use mathlib.Core.Option.{Option, some, none, Option·getD}
+use native.Mathlib.Omega.{arith}
+use lib.Dec.{eqb, leb, ltb}
+use lib.ListN.{length}
+use borrow.Author.Tests.{eqb-true, eqb-false, eq-eqb, ne-eqb, ltb-true, ltb-false, lt-ltb}
+use Rattle.sets.specs.Sets.{member}
+use Rattle.sets.proofs.Tests.{cases, clash, is-false, is-true, and-true, true-not}
+use Rattle.sets.proofs.Member.{member-empty}
+use Rattle.plan.specs.declared.plan.Plan.{Plan}
+use Rattle.plan.specs.declared.schedule.Round.{Round}
+use Rattle.plan.specs.Schedule.{rounds, runs, steps, stepRun, stepRound}
+use Rattle.tree.specs.Labels.{Label, occurs, last}
+use Rattle.tree.specs.Places.{cellCount}
+use Rattle.tree.proofs.Labels.{label-dealer, root-has}
+use Rattle.theory.specs.Tree as T
+use Rattle.protocol.specs.declared.records.Record.{Record}
+use Rattle.protocol.specs.Nodes.{value, read, nodes, inner, sent, due}
+use Rattle.protocol.specs.Detection.{Scan, detectAll1}
+use Rattle.protocol.specs.Rounds.{Board, gather, copyOwn}
+use Rattle.protocol.specs.Session.{Adversary, Setting, at}
+use Rattle.protocol.specs.Lists.{keeper, Sound}
+use Rattle.protocol.proofs.Nodes.{inner-same, inner-inv, inner-has, node-label, node-root, node-inv, node-has, root-node, no-node}
+use Rattle.protocol.proofs.Fill.{IsLabel}
+use Rattle.protocol.proofs.Judgement.{plan-facts, Good, good-dealer}
+use Rattle.protocol.proofs.Bounds.{read-small, last-below}
+use Rattle.protocol.proofs.Instance.{inst, mem-node}
+use Rattle.protocol.proofs.Gathering.{listOf, scan-cell, scan-sound}
+use Rattle.protocol.proofs.Hearing.{filled-length, delivered}
+use Rattle.protocol.proofs.Synchronous.{told, keeper-facts, standing, standing-start, position}
+use Rattle.protocol.proofs.Delivery.{good, healthy, healthy-keeper, told-word, st, rec, rec-good, stored-cells, scanned, stored-healthy, scanned-other}
+
+module _ (s : Setting) (a : Adversary) (sound : Sound s) where
+  abbrev plan : Plan
+  plan = s .plan
+
+  abbrev F : ℕ
+  F = s .faulty
+
+  -- The number of the round that is open in step j.
+  abbrev pub open-round : ℕ → ℕ
+  open-round j = stepRound plan (suc j) .0
+
+  pub record Inv (j : ℕ) : Type 0 where
+    -- lists hold faulty boards only
+    pub lists : (i : ℕ) → keeper s i ≡ true → T.Sub (plan .n) (listOf (at s a j i .rec .detected)) (listOf F)
+    -- in the levels that are filled, a healthy board's child has that board's cell
+    pub deliver : (i q e : ℕ) (α : Label) → keeper s i ≡ true → keeper s q ≡ true → List·Memᴰ α (inner plan i (suc e)) → occurs q α ≡ false
+        → suc (suc e) < open-round j → read plan (at s a j i .cells) (q ∷ α) ≡ read plan (at s a j q .cells) α
+    -- a healthy dealer's value is every root
+    pub root : 2 ≤ open-round j → member (plan .dealer) F ≡ false → (i : ℕ) → keeper s i ≡ true
+        → read plan (at s a j i .cells) (plan .dealer ∷ []) ≡ s .word
+
+  module _ (j : ℕ) (l : j < steps plan) (I : Inv j) where
+    some-value : 0 < plan .span
+    some-value = omega (arith, plan-facts plan (sound .accepted) .two-values)
+
+    dealer-below : plan .dealer < plan .n
+    dealer-below = plan-facts plan (sound .accepted) .dealer-below
+
+    -- a healthy board is not listed
+    unlisted : (i q : ℕ) → keeper s i ≡ true → q < plan .n → member q F ≡ false → member q (at s a j i .rec .detected) ≡ false
+    unlisted i q ki lq f = is-false (member q (at s a j i .rec .detected)) (λ t. clash (I .lists i ki q lq t) f)
+
+    -- The healthy children of a healthy board's node have one value.
+    minds : (i e : ℕ) (ki : keeper s i ≡ true) (α : Label) → open-round j ≡ suc (suc e) → List·Memᴰ α (inner plan i (suc e)) → member (last α) F ≡ false
+        → (v : ℕ) × (v < plan .span) × ((c : ℕ) → T.Healthy (inst plan) (listOf F) c → occurs c α ≡ false → read plan (stored-cells s a sound j i ki l) (c ∷ α) ≡ v)
+    unfolding last
+    minds i zero ki α ek m out =
+        let z : α ≡ plan .dealer ∷ [] = node-root plan i α (inner-inv plan i 1 α m .0) in
+        let f : member (plan .dealer) F ≡ false = subst (λ x. member (last x) F ≡ false) z out in (
+          s .word,
+          sound .word-below f,
+          λ c C a-out.
+              let kc = healthy-keeper s a sound c C in
+              stored-healthy s a sound j i ki l c 0 α kc (unlisted i c ki (C .below) (C .correct)) ek m a-out
+              ∙ ap (read plan (at s a j c .cells)) z ∙ I .root (omega arith) f c kc,
+        )
+    minds i (suc e) ki α ek m out =
+        let (β, w, (r, x, lr, r-out)) = node-inv plan i e α (inner-inv plan i (suc (suc e)) α m .0) in
+        let f : member r F ≡ false = subst (λ y. member (last y) F ≡ false) x out in
+        let on = label-dealer (plan .n) (plan .dealer) (suc e) β (node-label plan i (suc e) β (inner-inv plan i (suc e) β w .0)) in
+        let nd : r ≢ plan .dealer = λ y. clash on (subst (λ q. occurs q β ≡ false) y r-out) in
+        let kr = healthy-keeper s a sound r (record { below = lr; correct = f; keeper = nd }) in (
+          read plan (at s a j r .cells) β,
+          read-small plan some-value (at s a j r .cells) β,
+          λ c C a-out.
+              let kc = healthy-keeper s a sound c C in
+              stored-healthy s a sound j i ki l c (suc e) α kc (unlisted i c ki (C .below) (C .correct)) ek m a-out
+              ∙ ap (read plan (at s a j c .cells)) x
+              ∙ I .deliver c r e β kc kr (subst (λ αs. List·Memᴰ β αs) (inner-same plan i c (suc e)) w) r-out (omega arith),
+        )
+
+    -- The round is 1, or there is a level before it.
+    by-round {ℓ} : {C : Type ℓ} → (open-round j ≡ 1 → C) → ((e : ℕ) → open-round j ≡ suc (suc e) → C) → (i : ℕ) → keeper s i ≡ true → C
+    by-round one more i ki =
+        let low = position s a sound j i ki (standing s a sound j i ki l) l .round-low in
+        cases (eqb (open-round j) 1)
+        (λ x. one (eqb-true (open-round j) 1 x))
+        (λ x. let ne : open-round j ≢ 1 = eqb-false (open-round j) 1 x in more (open-round j - 2) (omega arith))
+
+    room : (i : ℕ) (ki : keeper s i ≡ true) → cellCount (plan .n) ≤ length (stored-cells s a sound j i ki l)
+    room i ki =
+        let t = st s a sound j i ki l in
+        rw (filled-length (rec s a sound j i ki l) (rec-good s a sound j i ki l) refl (told s a i j) (at s a j i .cells) (t .room)) (t .room)
+
+    -- Rule FD1 lists faulty boards only.
+    pub scan-lists : (i : ℕ) (ki : keeper s i ≡ true) → T.Sub (plan .n) (listOf (scanned s a sound j i ki l .detected)) (listOf F)
+    scan-lists i ki =
+        let k = open-round j - 1 in
+        let high = position s a sound j i ki (standing s a sound j i ki l) l .round-high in
+        scan-sound plan dealer-below i k F (good s a sound) (inner plan i k)
+        (record { detected = at s a j i .rec .detected; cells = stored-cells s a sound j i ki l })
+        {j = rounds plan .0 - k}
+        (λ α m. mem-node plan i k (rounds plan .0 - k) α (inner-inv plan i k α m .0) (omega arith))
+        (λ _ m. m) (room i ki)
+        (λ α m out. by-round
+        (λ one. absurd (no-node plan i α (inner-inv plan i 0 α (subst (λ x. List·Memᴰ α (inner plan i x)) (let z : k ≡ 0 = omega arith in z) m) .0)))
+        (λ e ek. minds i e ki α ek (subst (λ x. List·Memᴰ α (inner plan i x)) (let z : k ≡ suc e = omega arith in z) m) out)
+        i ki)
+        (I .lists i ki)
+
+    -- What rule FD1 leaves of a healthy board's cell.
+    scan-keeps : (i q : ℕ) (ki : keeper s i ≡ true) (b : ℕ) (α : Label) → q < plan .n → member q F ≡ false → IsLabel plan dealer-below b (q ∷ α)
+        → read plan (scanned s a sound j i ki l .cells) (q ∷ α) ≡ read plan (stored-cells s a sound j i ki l) (q ∷ α)
+    unfolding last
+    scan-keeps i q ki b α lq f w =
+        ⊎-elim (λ x. x) (λ x. clash (scan-lists i ki q lq (x .1)) f)
+        (scan-cell plan dealer-below i (open-round j - 1) (inner plan i (open-round j - 1))
+        (record { detected = at s a j i .rec .detected; cells = stored-cells s a sound j i ki l }) b (q ∷ α) (λ _ m. m) w (room i ki))
+
+    -- After rule FD1 a healthy board's child has that board's cell, in this level too.
+    pub scan-deliver : (i q e : ℕ) (α : Label) (ki : keeper s i ≡ true) (kq : keeper s q ≡ true) → List·Memᴰ α (inner plan i (suc e)) → occurs q α ≡ false
+        → suc (suc e) ≤ open-round j → read plan (scanned s a sound j i ki l .cells) (q ∷ α) ≡ read plan (scanned s a sound j q kq l .cells) α
+    scan-deliver i q e α ki kq m out h =
+        let (lq, f, nq) = keeper-facts s a sound q kq in
+        let here = node-label plan i (suc e) α (inner-inv plan i (suc e) α m .0) in
+        let child-here : IsLabel plan dealer-below (suc (suc e)) (q ∷ α) = node-label plan i (suc (suc e)) (q ∷ α) (node-has plan i e α q m lq out) in
+        let own = scanned-other s a sound j q kq l (suc e) α here (let z : suc e ≢ open-round j = omega arith in z) in
+        cases (eqb (suc (suc e)) (open-round j))
+        (λ x. let z = eqb-true (suc (suc e)) (open-round j) x in
+        scan-keeps i q ki (suc (suc e)) α lq f child-here
+        ∙ stored-healthy s a sound j i ki l q e α kq (unlisted i q ki lq f) (sym z) m out ∙ sym own)
+        (λ x. let ne : suc (suc e) ≢ open-round j = eqb-false (suc (suc e)) (open-round j) x in
+        scanned-other s a sound j i ki l (suc (suc e)) (q ∷ α) child-here ne ∙ I .deliver i q e α ki kq m out (omega arith) ∙ sym own)
