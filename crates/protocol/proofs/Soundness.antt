@@ -21,19 +21,23 @@ use Rattle.tree.specs.Places.{cellCount}
 use Rattle.tree.proofs.Labels.{label-dealer, root-has}
 use Rattle.theory.specs.Tree as T
 use Rattle.protocol.specs.declared.records.Record.{Record}
-use Rattle.protocol.specs.Nodes.{value, read, nodes, inner, sent, due}
-use Rattle.protocol.specs.Detection.{Scan, detectAll1}
+use Rattle.protocol.specs.Nodes.{default, value, read, internal, nodes, inner, sent, due}
+use Rattle.theory.specs.Runs.{Flow}
+use Rattle.theory.specs.Tree.{root, child}
+use Rattle.theory.proofs.Uniform.{uniform, healthy-node}
+use Rattle.protocol.proofs.Converting.{Minds, levels-sound}
+use Rattle.protocol.specs.Detection.{Scan, byResolving, resolveRoot, detectLevels}
 use Rattle.protocol.specs.Rounds.{Board, gather, copyOwn}
 use Rattle.protocol.specs.Session.{Adversary, Setting, at}
 use Rattle.protocol.specs.Lists.{keeper, Sound}
-use Rattle.protocol.proofs.Nodes.{inner-same, inner-inv, inner-has, node-label, node-root, node-inv, node-has, root-node, no-node}
+use Rattle.protocol.proofs.Nodes.{inner-same, inner-inv, inner-has, node-label, node-length, node-root, node-inv, node-has, no-node}
 use Rattle.protocol.proofs.Fill.{IsLabel}
 use Rattle.protocol.proofs.Judgement.{plan-facts, Good, good-dealer}
 use Rattle.protocol.proofs.Bounds.{read-small, last-below}
-use Rattle.protocol.proofs.Instance.{inst, mem-node}
+use Rattle.protocol.proofs.Instance.{inst, mem-node, node-mem, node-level, resolve-inst}
 use Rattle.protocol.proofs.Gathering.{listOf, scan-cell, scan-sound}
-use Rattle.protocol.proofs.Hearing.{filled-length, delivered}
-use Rattle.protocol.proofs.Synchronous.{told, keeper-facts, standing, standing-start, position}
+use Rattle.protocol.proofs.Hearing.{hear, stored, filled, filled-length, delivered}
+use Rattle.protocol.proofs.Synchronous.{told, keeper-facts, standing, standing-start, position, heard-all}
 use Rattle.protocol.proofs.Delivery.{good, healthy, healthy-keeper, told-word, st, rec, rec-good, stored-cells, scanned, stored-healthy, scanned-other}
 
 module _ (s : Setting) (a : Adversary) (sound : Sound s) where
@@ -149,3 +153,127 @@ module _ (s : Setting) (a : Adversary) (sound : Sound s) where
         ∙ stored-healthy s a sound j i ki l q e α kq (unlisted i q ki lq f) (sym z) m out ∙ sym own)
         (λ x. let ne : suc (suc e) ≢ open-round j = eqb-false (suc (suc e)) (open-round j) x in
         scanned-other s a sound j i ki l (suc (suc e)) (q ∷ α) child-here ne ∙ I .deliver i q e α ki kq m out (omega arith) ∙ sym own)
+
+    -- In round 1 the dealer sends one value.
+    sent-dealer : (i : ℕ) → open-round j ≡ 1 → sent plan (plan .dealer) i (stepRound plan (suc j)) ≡ [] ∷ []
+    unfolding sent
+    sent-dealer i one = rw (eq-eqb (open-round j) 1 one, eq-eqb (plan .dealer) (plan .dealer) refl)
+
+    dealer-due : (i : ℕ) → keeper s i ≡ true → open-round j ≡ 1 → due plan (plan .dealer) i (stepRound plan (suc j)) ≡ true
+    unfolding due
+    dealer-due i ki one =
+        let (li, fi, ni) = keeper-facts s a sound i ki in
+        rw (
+          sent-dealer i one,
+          lt-ltb (plan .dealer) (plan .n) dealer-below,
+          lt-ltb i (plan .n) li,
+          ne-eqb (plan .dealer) i (λ z. ni (sym z)),
+          ne-eqb i (plan .dealer) ni,
+        )
+
+    -- A healthy dealer's value is every root, after rule FD1 too.
+    pub scan-root : member (plan .dealer) F ≡ false → (i : ℕ) (ki : keeper s i ≡ true) → read plan (scanned s a sound j i ki l .cells) (plan .dealer ∷ []) ≡ s .word
+    scan-root f i ki =
+        let (li, fi, ni) = keeper-facts s a sound i ki in
+        let root-label = root-has (plan .n) (plan .dealer) in
+        by-round
+        (λ one. let e = sent-dealer i one in
+        scan-keeps i (plan .dealer) ki 1 [] dealer-below f root-label
+        ∙ delivered (rec s a sound j i ki l) (rec-good s a sound j i ki l) refl (told s a i j) (at s a j i .cells) (st s a sound j i ki l .room)
+        (plan .dealer) [] dealer-below (subst (λ αs. List·Memᴰ [] αs) (sym e) (List·Memᴰ·head refl)) (λ _. s .word) (λ z. ni (sym z)) (dealer-due i ki one)
+        (unlisted i (plan .dealer) ki dealer-below f)
+        (told-word s a sound j i f ∙ ap (λ αs. some (map (λ _. s .word) αs)) (sym e)) (sound .word-below f))
+        (λ e ek. scanned-other s a sound j i ki l 1 (plan .dealer ∷ []) root-label (let z : 1 ≢ open-round j = omega arith in z) ∙ I .root (omega arith) f i ki)
+        i ki
+
+    -- The cells of all boards after rule FD1.
+    abbrev pub scan-of : ℕ → Scan
+    scan-of i = gather (hear (told s a i j) (at s a j i) (plan .n))
+
+    pub scan-is : (i : ℕ) (ki : keeper s i ≡ true) → scan-of i ≡ scanned s a sound j i ki l
+    unfolding gather filled stored
+    scan-is i ki = ap gather (heard-all s a sound j i ki (st s a sound j i ki l) l)
+
+    abbrev pub cell-of : ℕ → Label → ℕ
+    cell-of i α = read plan (scan-of i .cells) α
+
+    pub cell-deliver : (i q e : ℕ) (α : Label) → keeper s i ≡ true → keeper s q ≡ true → List·Memᴰ α (inner plan i (suc e)) → occurs q α ≡ false
+        → suc (suc e) ≤ open-round j → cell-of i (q ∷ α) ≡ cell-of q α
+    cell-deliver i q e α ki kq m out h =
+        ap (λ x. read plan (x .cells) (q ∷ α)) (scan-is i ki) ∙ scan-deliver i q e α ki kq m out h ∙ sym (ap (λ x. read plan (x .cells) α) (scan-is q kq))
+
+    -- At the end of a run.
+    module _ (end : open-round j ≡ rounds plan .0) where
+      pub flow : Flow (inst plan) (listOf F) cell-of
+      flow = record {
+        small = λ {p = i} {k} {α} H N. read-small plan some-value (scan-of i .cells) α;
+        deliver = λ {p = i} {q} {k} {α} H K N inn out. go i q k α H K N inn out;
+      }
+        where
+          go : (i q k : ℕ) (α : Label) → T.Healthy (inst plan) (listOf F) i → T.Healthy (inst plan) (listOf F) q → T.Node (inst plan) i (suc k) α
+              → internal plan i α ≡ true → occurs q α ≡ false → cell-of i (q ∷ α) ≡ cell-of q α
+          go i q k α H K N inn out =
+              let level = node-level plan N in
+              let m = inner-has plan i (length α) α (node-mem plan N) inn in
+              let some-level : length α ≡ suc (length α - 1) = positive (length α) (λ z. no-node plan i α (subst (λ x. List·Memᴰ α (nodes plan i x)) z (node-mem plan N))) in
+              cell-deliver i q (length α - 1) α (healthy-keeper s a sound i H) (healthy-keeper s a sound q K)
+              (subst (λ x. List·Memᴰ α (inner plan i x)) some-level m) out (omega arith)
+            where
+              positive : (x : ℕ) → (x ≡ 0 → ⊥) → x ≡ suc (x - 1)
+              positive x h = let ne : x ≢ 0 = h in omega arith
+
+      -- What a healthy board's node holds is the same for all healthy boards that are not on it.
+      held : (i e : ℕ) (α : Label) → keeper s i ≡ true → List·Memᴰ α (inner plan i (suc e)) → suc e ≤ rounds plan .0 - 1 → member (last α) F ≡ false
+          → (v : ℕ) × (v < plan .span) × ((c : ℕ) → keeper s c ≡ true → cell-of c α ≡ v)
+      unfolding last
+      held i zero α ki m h out =
+          let z : α ≡ plan .dealer ∷ [] = node-root plan i α (inner-inv plan i 1 α m .0) in
+          let f : member (plan .dealer) F ≡ false = subst (λ x. member (last x) F ≡ false) z out in (
+            s .word,
+            sound .word-below f,
+            λ c kc. ap (cell-of c) z ∙ ap (λ x. read plan (x .cells) (plan .dealer ∷ [])) (scan-is c kc) ∙ scan-root f c kc,
+          )
+      held i (suc e) α ki m h out =
+          let (β, w, (r, x, lr, r-out)) = node-inv plan i e α (inner-inv plan i (suc (suc e)) α m .0) in
+          let f : member r F ≡ false = subst (λ y. member (last y) F ≡ false) x out in
+          let on = label-dealer (plan .n) (plan .dealer) (suc e) β (node-label plan i (suc e) β (inner-inv plan i (suc e) β w .0)) in
+          let nd : r ≢ plan .dealer = λ y. clash on (subst (λ q. occurs q β ≡ false) y r-out) in
+          let kr = healthy-keeper s a sound r (record { below = lr; correct = f; keeper = nd }) in (
+            cell-of r β,
+            read-small plan some-value (scan-of r .cells) β,
+            λ c kc. ap (cell-of c) x ∙ cell-deliver c r e β kc kr (subst (λ αs. List·Memᴰ β αs) (inner-same plan i c (suc e)) w) r-out (omega arith),
+          )
+
+      -- Rule FD2 lists faulty boards only.
+      pub convert-lists : (i : ℕ) → keeper s i ≡ true
+          → T.Sub (plan .n) (listOf (detectLevels plan i (scan-of i .cells) (rounds plan .0 - 1) (scan-of i .detected))) (listOf F)
+      unfolding byResolving
+      convert-lists i ki =
+          levels-sound plan i (scan-of i .cells) F (good s a sound) (rounds plan .0 - 1) (scan-of i .detected)
+          (λ k α low high m. at-level k α low high m)
+          (subst (λ x. T.Sub (plan .n) (listOf (x .detected)) (listOf F)) (sym (scan-is i ki)) (scan-lists i ki))
+        where
+          at-level : (k : ℕ) (α : Label) → 1 ≤ k → k ≤ rounds plan .0 - 1 → List·Memᴰ α (inner plan i k)
+              → (left : ℕ) × T.Node (inst plan) i left α × Minds plan i (scan-of i .cells) F (good s a sound) α
+          at-level zero α low high m = absurd (omega arith)
+          at-level (suc e) α low high m =
+              let (w, inn) = inner-inv plan i (suc e) α m in
+              let size = node-length plan i (suc e) α w in
+              let left = rounds plan .0 - suc (length α) in
+              let N : T.Node (inst plan) i (suc left) α = mem-node plan i (suc e) (suc left) α w (omega arith) in
+              (suc left, N, λ out.
+              let (v, lv, u) = held i e α ki m high out in
+              (v, lv, λ c C a-out. unfold byResolving in
+              resolve-inst plan i (scan-of i .cells) left (c ∷ α)
+              ∙ healthy-node (good s a sound) flow C i (healthy s a sound i ki) (child N inn (C .below) a-out)
+              ∙ ap some (u c (healthy-keeper s a sound c C))))
+
+      -- A healthy dealer's value is the resolved root.
+      pub convert-root : member (plan .dealer) F ≡ false → (i : ℕ) → keeper s i ≡ true → resolveRoot plan i (scan-of i .cells) ≡ s .word
+      unfolding resolveRoot
+      convert-root f i ki =
+          ap (λ o. Option·getD o (default plan))
+          (resolve-inst plan i (scan-of i .cells) (rounds plan .0 - 1) (plan .dealer ∷ [])
+          ∙ uniform (good s a sound) flow (rounds plan .0 - 1) (s .word) (plan .dealer ∷ [])
+          (λ q Q N. ap (λ x. read plan (x .cells) (plan .dealer ∷ [])) (scan-is q (healthy-keeper s a sound q Q)) ∙ scan-root f q (healthy-keeper s a sound q Q))
+          i (healthy s a sound i ki) root)
