@@ -17,7 +17,8 @@ use Rattle.plan.specs.declared.plan.Plan.{Plan}
 use Rattle.plan.specs.declared.schedule.Round.{Round}
 use Rattle.plan.specs.Schedule.{rounds, runs, steps, stepRun, stepRound}
 use Rattle.tree.specs.Labels.{Label, occurs, last}
-use Rattle.tree.specs.Places.{cellCount}
+use Rattle.tree.specs.Places.{cellCount, place, levelStart, levelSize, rank}
+use Rattle.tree.specs.Cells.{cellAt}
 use Rattle.tree.proofs.Labels.{label-dealer, root-has}
 use Rattle.theory.specs.Tree as T
 use Rattle.protocol.specs.declared.records.Record.{Record}
@@ -27,17 +28,19 @@ use Rattle.theory.specs.Tree.{root, child}
 use Rattle.theory.proofs.Uniform.{uniform, healthy-node}
 use Rattle.protocol.proofs.Converting.{Minds, levels-sound}
 use Rattle.protocol.specs.Detection.{Scan, byResolving, resolveRoot, detectLevels}
-use Rattle.protocol.specs.Rounds.{Board, gather, copyOwn}
+use Rattle.protocol.specs.Rounds.{rootOnly, nextRound, convert, Board, gather, copyOwn}
 use Rattle.protocol.specs.Session.{Adversary, Setting, at}
+use Rattle.protocol.specs.Calls.{freshRecord}
+use Rattle.plan.proofs.Levels.{rounds-pos}
 use Rattle.protocol.specs.Lists.{keeper, Sound}
 use Rattle.protocol.proofs.Nodes.{inner-same, inner-inv, inner-has, node-label, node-length, node-root, node-inv, node-has, no-node}
 use Rattle.protocol.proofs.Fill.{IsLabel}
 use Rattle.protocol.proofs.Judgement.{plan-facts, Good, good-dealer}
-use Rattle.protocol.proofs.Bounds.{read-small, last-below}
+use Rattle.protocol.proofs.Bounds.{read-small, root-small}
 use Rattle.protocol.proofs.Instance.{inst, mem-node, node-mem, node-level, resolve-inst}
 use Rattle.protocol.proofs.Gathering.{listOf, scan-cell, scan-sound}
-use Rattle.protocol.proofs.Hearing.{hear, stored, filled, filled-length, delivered}
-use Rattle.protocol.proofs.Synchronous.{told, keeper-facts, standing, standing-start, position, heard-all}
+use Rattle.protocol.proofs.Hearing.{hear, stored, filled, filled-length, delivered, value-same}
+use Rattle.protocol.proofs.Synchronous.{at-start, begun-shape, told, keeper-facts, standing, standing-start, position, number, heard-all, ready, after-step, close-next, close-last, next-run, more-runs}
 use Rattle.protocol.proofs.Delivery.{good, healthy, healthy-keeper, told-word, st, rec, rec-good, stored-cells, scanned, stored-healthy, scanned-other}
 
 module _ (s : Setting) (a : Adversary) (sound : Sound s) where
@@ -277,3 +280,98 @@ module _ (s : Setting) (a : Adversary) (sound : Sound s) where
           ∙ uniform (good s a sound) flow (rounds plan .0 - 1) (s .word) (plan .dealer ∷ [])
           (λ q Q N. ap (λ x. read plan (x .cells) (plan .dealer ∷ [])) (scan-is q (healthy-keeper s a sound q Q)) ∙ scan-root f q (healthy-keeper s a sound q Q))
           i (healthy s a sound i ki) root)
+
+    -- A board after the step.
+    module _ (i : ℕ) (ki : keeper s i ≡ true) where
+      abbrev ready-board : Board
+      ready-board = ready s a sound j i ki (st s a sound j i ki l) l
+
+      gathered : gather ready-board ≡ scan-of i
+      gathered = ap gather (sym (heard-all s a sound j i ki (st s a sound j i ki l) l))
+
+      within-run : open-round j < rounds plan .0 → at s a (suc j) i ≡ nextRound (ready-board .rec) (scan-of i)
+      within-run h =
+          after-step s a sound j i ki (st s a sound j i ki l) l ∙ close-next s a sound j i ki (st s a sound j i ki l) l h
+          ∙ ap (nextRound (ready-board .rec)) gathered
+
+      run-ends : rounds plan .0 ≤ open-round j → at s a (suc j) i ≡ convert (ready-board .rec) (scan-of i)
+      run-ends h =
+          after-step s a sound j i ki (st s a sound j i ki l) l ∙ close-last s a sound j i ki (st s a sound j i ki l) l h
+          ∙ ap (convert (ready-board .rec)) gathered
+
+      high : open-round j ≤ rounds plan .0
+      high = position s a sound j i ki (st s a sound j i ki l) l .round-high
+
+      -- Its list holds faulty boards only.
+      pub lists-next : T.Sub (plan .n) (listOf (at s a (suc j) i .rec .detected)) (listOf F)
+      unfolding nextRound convert
+      lists-next =
+          cases (ltb (open-round j) (rounds plan .0))
+          (λ e. subst (λ b. T.Sub (plan .n) (listOf (b .rec .detected)) (listOf F)) (sym (within-run (ltb-true (open-round j) (rounds plan .0) e)))
+          (subst (λ x. T.Sub (plan .n) (listOf (x .detected)) (listOf F)) (sym (scan-is i ki)) (scan-lists i ki)))
+          (λ e. let ge = ltb-false (open-round j) (rounds plan .0) e in
+          subst (λ b. T.Sub (plan .n) (listOf (b .rec .detected)) (listOf F)) (sym (run-ends ge)) (convert-lists (omega (arith, high)) i ki))
+
+      -- The round that is open next.
+      next-open : suc j < steps plan → at s a (suc j) i .rec .round .0 ≡ open-round (suc j)
+      next-open more = ap (λ (r : Record). r .round .0) (standing s a sound (suc j) i ki more .shape)
+
+    -- The invariant after the step.
+    pub inv-next : suc j < steps plan → Inv (suc j)
+    unfolding nextRound convert
+    inv-next more = record {
+      lists = λ i ki. lists-next i ki;
+      deliver = λ i q e α ki kq m out h.
+          cases (ltb (open-round j) (rounds plan .0))
+          (λ x. let lt = ltb-true (open-round j) (rounds plan .0) x in
+          let next : open-round (suc j) ≡ open-round j + 1 = sym (next-open i ki more) ∙ ap (λ (b : Board). b .rec .round .0) (within-run i ki lt) in
+          ap (λ (b : Board). read plan (b .cells) (q ∷ α)) (within-run i ki lt) ∙ cell-deliver i q e α ki kq m out (omega arith)
+          ∙ sym (ap (λ (b : Board). read plan (b .cells) α) (within-run q kq lt)))
+          (λ x. let ge = ltb-false (open-round j) (rounds plan .0) x in
+          let two : open-round (suc j) ≡ 2 = second i ki more ge in
+          absurd (let y : ⊥ = omega arith in y));
+      root = λ h f i ki.
+          cases (ltb (open-round j) (rounds plan .0))
+          (λ x. let lt = ltb-true (open-round j) (rounds plan .0) x in
+          ap (λ (b : Board). read plan (b .cells) (plan .dealer ∷ [])) (within-run i ki lt)
+          ∙ ap (λ x. read plan (x .cells) (plan .dealer ∷ [])) (scan-is i ki) ∙ scan-root f i ki)
+          (λ x. let ge = ltb-false (open-round j) (rounds plan .0) x in
+          ap (λ (b : Board). read plan (b .cells) (plan .dealer ∷ [])) (run-ends i ki ge)
+          ∙ root-read (resolveRoot plan i (scan-of i .cells)) (scan-of i .cells) (root-small plan some-value i (scan-of i .cells))
+          ∙ convert-root (omega (arith, high i ki)) f i ki);
+    }
+      where
+        second : (i : ℕ) (ki : keeper s i ≡ true) → suc j < steps plan → rounds plan .0 ≤ open-round j → open-round (suc j) ≡ 2
+        second i ki more ge =
+            let x = st s a sound j i ki l in
+            let end : open-round j ≡ rounds plan .0 = omega (arith, high i ki) in
+            let turn = next-run plan (stepRun plan (suc j)) (stepRound plan (suc j)) (sound .accepted) (position s a sound j i ki x l) end (more-runs s a sound j i ki x l more end) in
+            ap (λ z. stepRound plan (suc z) .0) (sym (number s a sound j i ki x l)) ∙ ap (λ (k : Round). k .0) (turn .1)
+        root-read : (x : ℕ) (cells : List ℕ) → x < plan .span → read plan (rootOnly (plan .n) x cells) (plan .dealer ∷ []) ≡ x
+        root-read x cells small = unfold read cellAt place levelStart levelSize rank rootOnly in value-same plan x small
+
+  -- At the start lists are empty.
+  pub inv-start : 0 < steps plan → Inv 0
+  inv-start l = record {
+    lists = λ i ki q lq t. clash (subst (λ x. member q (x .detected) ≡ true) (fresh i ki) t) (unfold freshRecord in member-empty q);
+    deliver = λ i q e α ki kq m out h. absurd (let y : ⊥ = omega (arith, one i ki) in y);
+    root = λ h f i ki. absurd (let y : ⊥ = omega (arith, one i ki) in y);
+  }
+    where
+      fresh : (i : ℕ) → keeper s i ≡ true → at s a 0 i .rec ≡ freshRecord plan i
+      fresh i ki = ap (λ (b : Board). b .rec) (at-start s a i (keeper-facts s a sound i ki .0) ∙ begun-shape s a sound i ki)
+      one : (i : ℕ) → keeper s i ≡ true → open-round 0 ≡ 1
+      one i ki =
+          sym (ap (λ (r : Record). r .round .0) (standing s a sound 0 i ki l .shape)) ∙ ap (λ (r : Record). r .round .0) (fresh i ki) ∙ unfold freshRecord in refl
+
+  pub inv : (j : ℕ) → j < steps plan → Inv j
+  inv zero l = inv-start l
+  inv (suc j) l = inv-next j (omega arith) (inv j (omega arith)) l
+
+  -- 003, section 3.2: every list of a healthy board lies within F, after every step.
+  pub lists-within : (j i : ℕ) → j ≤ steps plan → keeper s i ≡ true → T.Sub (plan .n) (listOf (at s a j i .rec .detected)) (listOf F)
+  lists-within zero i h ki = inv-start (some-step i ki) .lists i ki
+    where
+      some-step : (i : ℕ) → keeper s i ≡ true → 0 < steps plan
+      some-step i ki = unfold steps in omega (arith, rounds-pos plan)
+  lists-within (suc j) i h ki = lists-next j h (inv j h) i ki

@@ -10,7 +10,7 @@ use native.Mathlib.Omega.{arith}
 use native.Mathlib.Nat.{zero-mul}
 use lib.Dec.{eqb, ltb}
 use lib.ListN.{length, getD, drop, replicate, length-append, length-replicate}
-use borrow.Author.Tests.{eqb-false, ne-eqb, ltb-true, ltb-false, lt-ltb, le-ltb}
+use borrow.Author.Tests.{eqb-false, ne-eqb, ltb-true, ltb-false, lt-ltb, le-ltb, eqb-true}
 use Rattle.sets.specs.Sets.{member}
 use Rattle.sets.proofs.Tests.{cases, and-l, and-r, not-t}
 use Rattle.plan.specs.declared.plan.Plan.{Plan}
@@ -227,6 +227,16 @@ module _ (s : Setting) (a : Adversary) (sound : Sound s) where
     same-record : (detected : ℕ) {t t′ : Run} {q q′ : Round} → t ≡ t′ → q ≡ q′ → record-of i t q detected ≡ record-of i t′ q′ detected
     same-record detected e f = ap₂ (λ (t : Run) (q : Round). record-of i t q detected) e f
 
+    -- Where a step follows the last round of a run, so does a run.
+    pub more-runs : suc j < steps plan → stepRound plan (suc j) .0 ≡ rounds plan .0 → stepRun plan (suc j) .0 < runs plan .0
+    unfolding step steps
+    more-runs h y =
+        cases (eqb (stepRun plan (suc j) .0) (runs plan .0))
+        (λ e. let x = eqb-true (stepRun plan (suc j) .0) (runs plan .0) e in
+        let m : (stepRun plan (suc j) .0 - 1) * (rounds plan .0 - 1) ≡ (runs plan .0 - 1) * (rounds plan .0 - 1) = ap (λ z. (z - 1) * (rounds plan .0 - 1)) x in
+        absurd (omega (arith, number)))
+        (λ e. let ne : stepRun plan (suc j) .0 ≢ runs plan .0 = eqb-false (stepRun plan (suc j) .0) (runs plan .0) e in omega (arith, position .run-high))
+
     pub next-shape : suc j < steps plan → close ready .rec ≡ canon i (suc j) (close ready .rec .detected)
     unfolding nextRound convert record-of
     next-shape l =
@@ -238,17 +248,11 @@ module _ (s : Setting) (a : Adversary) (sound : Sound s) where
         rw (close-next lt) (same-record (gather ready .detected) (sym (ap (λ z. stepRun plan (suc z)) (sym number) ∙ x)) (sym (ap (λ z. stepRound plan (suc z)) (sym number) ∙ y))))
         (λ e. let ge = ltb-false (q .0) (rounds plan .0) e in
         let last : q .0 ≡ rounds plan .0 = omega (arith, position .round-high) in
-        let ne : t .0 ≢ runs plan .0 = λ z. end l z last in
-        let (x, y) = next-run plan t q (sound .accepted) position last (omega (arith, position .run-high)) in
-        rw (close-last ge, ne-eqb (t .0) (runs plan .0) ne)
+        let before = more-runs l last in
+        let (x, y) = next-run plan t q (sound .accepted) position last before in
+        rw (close-last ge, ne-eqb (t .0) (runs plan .0) (omega arith))
         (same-record (detectLevels plan i (gather ready .cells) (rounds plan .0 - 1) (gather ready .detected))
         (sym (ap (λ z. stepRun plan (suc z)) (sym number) ∙ x)) (sym (ap (λ z. stepRound plan (suc z)) (sym number) ∙ y))))
-      where
-        end : suc j < steps plan → stepRun plan (suc j) .0 ≡ runs plan .0 → stepRound plan (suc j) .0 ≡ rounds plan .0 → ⊥
-        end l x y =
-            unfold step steps in
-            let m : (stepRun plan (suc j) .0 - 1) * (rounds plan .0 - 1) ≡ (runs plan .0 - 1) * (rounds plan .0 - 1) = ap (λ z. (z - 1) * (rounds plan .0 - 1)) x in
-            omega (arith, number)
 
     pub standing-next : suc j < steps plan → Standing (suc j) i
     standing-next l = record {
