@@ -68,7 +68,7 @@ module _ (s : Setting) (a : Adversary) (sound : Sound s) where
     some-value : 0 < plan .span
     some-value = omega (arith, plan-facts plan (sound .accepted) .two-values)
 
-    dealer-below : plan .dealer < plan .n
+    pub dealer-below : plan .dealer < plan .n
     dealer-below = plan-facts plan (sound .accepted) .dealer-below
 
     -- a healthy board is not listed
@@ -112,7 +112,7 @@ module _ (s : Setting) (a : Adversary) (sound : Sound s) where
         (λ x. one (eqb-true (open-round j) 1 x))
         (λ x. let ne : open-round j ≢ 1 = eqb-false (open-round j) 1 x in more (open-round j - 2) (omega arith))
 
-    room : (i : ℕ) (ki : keeper s i ≡ true) → cellCount (plan .n) ≤ length (stored-cells s a sound j i ki l)
+    pub room : (i : ℕ) (ki : keeper s i ≡ true) → cellCount (plan .n) ≤ length (stored-cells s a sound j i ki l)
     room i ki =
         let t = st s a sound j i ki l in
         rw (filled-length (rec s a sound j i ki l) (rec-good s a sound j i ki l) refl (told s a i j) (at s a j i .cells) (t .room)) (t .room)
@@ -289,12 +289,12 @@ module _ (s : Setting) (a : Adversary) (sound : Sound s) where
       gathered : gather ready-board ≡ scan-of i
       gathered = ap gather (sym (heard-all s a sound j i ki (st s a sound j i ki l) l))
 
-      within-run : open-round j < rounds plan .0 → at s a (suc j) i ≡ nextRound (ready-board .rec) (scan-of i)
+      pub within-run : open-round j < rounds plan .0 → at s a (suc j) i ≡ nextRound (ready-board .rec) (scan-of i)
       within-run h =
           after-step s a sound j i ki (st s a sound j i ki l) l ∙ close-next s a sound j i ki (st s a sound j i ki l) l h
           ∙ ap (nextRound (ready-board .rec)) gathered
 
-      run-ends : rounds plan .0 ≤ open-round j → at s a (suc j) i ≡ convert (ready-board .rec) (scan-of i)
+      pub run-ends : rounds plan .0 ≤ open-round j → at s a (suc j) i ≡ convert (ready-board .rec) (scan-of i)
       run-ends h =
           after-step s a sound j i ki (st s a sound j i ki l) l ∙ close-last s a sound j i ki (st s a sound j i ki l) l h
           ∙ ap (convert (ready-board .rec)) gathered
