@@ -22,7 +22,7 @@ use Rattle.tree.specs.Labels.{Label, occurs, last}
 use Rattle.theory.specs.Tree as T
 use Rattle.theory.specs.Tree.{Node, root, child}
 use Rattle.protocol.specs.Nodes.{default, read, internal, nodes, inner}
-use Rattle.protocol.specs.Detection.{Scan, byCell, byResolving, resolveRoot, detectLevels}
+use Rattle.protocol.specs.Detection.{Scan, byCell, byResolving, resolve, resolveRoot, detectLevels}
 use Rattle.protocol.specs.Rounds.{Board, gather, nextRound, convert}
 use Rattle.protocol.specs.Session.{Adversary, Setting, at}
 use Rattle.protocol.specs.Lists.{keeper, Sound}
@@ -121,3 +121,97 @@ module _ (s : Setting) (a : Adversary) (sound : Sound s) where
         ∙ run-keeps m (suc j) (omega arith) (omega arith) ld b γ w (omega arith)
         ∙ scan-other (suc j) i ki l′ b γ w (let z : b ≢ open-round s a sound (suc j) = omega arith in z)
         ∙ ap (λ c. read plan c γ) (next-board j i ki l lt .1)
+
+  -- The end of a run: step jE, which closes round R.
+  module _ (jE : ℕ) (lE : jE < steps plan) (end : open-round s a sound jE ≡ R) (i : ℕ) (ki : keeper s i ≡ true) where
+    -- The step of this run that closes round k, R - k steps before.
+    pub round-step : (k : ℕ) → 2 ≤ k → k ≤ R → (j : ℕ) × (j + (R - k) ≡ jE) × (open-round s a sound j ≡ k)
+    unfolding step
+    round-step k low high =
+        let x = standing s a sound jE i ki lE in
+        let t = stepRun plan (suc jE) in
+        let h = position s a sound jE i ki x lE in
+        let q : Round = record { 0 = k } in
+        let h′ : Has plan t q = record {
+          run-low = h .run-low;
+          run-high = h .run-high;
+          round-low = omega arith;
+          round-later = λ _. low;
+          round-high = high;
+        } in
+        let e = number s a sound jE i ki x lE in
+        let j = step plan t q - 1 in
+        let one : suc j ≡ step plan t q = omega arith in
+        (j, omega arith, ap (λ z. stepRound plan z .0) one ∙ ap (λ (y : Round). y .0) (round-of-step plan t q h′))
+
+    -- A board that is listed when its frame comes is masked.
+    pub masked : (r e : ℕ) (α : Label) → r < plan .n → List·Memᴰ α (inner plan i (suc e)) → occurs r α ≡ false → suc (suc e) ≤ R
+        → (j₀ : ℕ) → j₀ + (R - 2) ≤ jE → member r (at s a j₀ i .rec .detected) ≡ true → read plan (scan jE i .cells) (r ∷ α) ≡ default plan
+    unfolding last
+    masked r e α lr m out high j₀ before t =
+        let (j, back, ek) = round-step (suc (suc e)) (omega arith) high in
+        let lj : j < steps plan = omega arith in
+        let I = inv s a sound j lj in
+        let ld = dealer-below s a sound j lj I in
+        let (li, fi, ni) = keeper-facts s a sound i ki in
+        let on : member r (at s a j i .rec .detected) ≡ true =
+        subst (λ x. member r (at s a x i .rec .detected) ≡ true) (let z : j₀ + (j - j₀) ≡ j = omega arith in z) (lists-grow i ki (j - j₀) j₀ (omega arith) r t) in
+        let ne : r ≢ i = λ z. clash (lists-within s a sound j i (omega arith) ki r lr on) (subst (λ x. member x (s .faulty) ≡ false) (sym z) fi) in
+        let (w, d) = is-due s a sound r i e (stepRound plan (suc j)) α lr li ne ni ek m out in
+        let stored-default = silenced (rec s a sound j i ki lj) (rec-good s a sound j i ki lj) refl (told s a i j) (at s a j i .cells) (st s a sound j i ki lj .room) r α lr w ne d on in
+        let label = node-label plan i (suc (suc e)) (r ∷ α) (node-has plan i e α r m lr out) in
+        let here : read plan (scan j i .cells) (r ∷ α) ≡ default plan =
+        ap (λ x. read plan (x .cells) (r ∷ α)) (is-scanned j i ki lj)
+        ∙ ⊎-elim (λ x. x ∙ stored-default) (λ x. x .0)
+        (scan-cell plan ld i (open-round s a sound j - 1) (inner plan i (open-round s a sound j - 1)) _ (suc (suc e)) (r ∷ α) (λ _ y. y) label (room s a sound j lj I i ki)) in
+        ap (λ x. read plan (scan x i .cells) (r ∷ α)) (sym back)
+        ∙ run-keeps i ki (R - suc (suc e)) j (omega arith) (omega arith) ld (suc (suc e)) (r ∷ α) label (omega arith) ∙ here
+
+    -- What rule FD1 leaves of a board that is not listed.
+    pub spared-fd1 : (e : ℕ) (β : Label) → List·Memᴰ β (inner plan i (suc e)) → suc (suc e) ≤ R → member (last β) (scan jE i .detected) ≡ false
+        → (v : ℕ) × (v < plan .span)
+        × (tol plan (λ c. not (member c (scan jE i .detected)) && T.others β (λ q. some (read plan (scan jE i .cells) (q ∷ β))) v c) ≡ true)
+    unfolding byCell
+    spared-fd1 e β m high u =
+        let (j, back, ek) = round-step (suc (suc e)) (omega arith) high in
+        let lj : j < steps plan = omega arith in
+        let I = inv s a sound j lj in
+        let ld = dealer-below s a sound j lj I in
+        let m′ : List·Memᴰ β (inner plan i (open-round s a sound j - 1)) = subst (λ x. List·Memᴰ β (inner plan i x)) (let z : suc e ≡ open-round s a sound j - 1 = omega arith in z) m in
+        let more : (c : ℕ) → member c (scan j i .detected) ≡ true → member c (scan jE i .detected) ≡ true =
+        λ c t. subst (λ x. member c (scan x i .detected) ≡ true) back (run-grows i ki (R - suc (suc e)) j (omega arith) (omega arith) c t) in
+        let u′ : member (last β) (scan j i .detected) ≡ false = is-false (member (last β) (scan j i .detected)) (λ t. clash (more (last β) t) u) in
+        let (v, lv, t) = subst (λ x. SparedBy plan ld i (open-round s a sound j - 1) x β) (sym (is-scanned j i ki lj))
+        (scan-spared plan ld i (open-round s a sound j - 1) (inner plan i (open-round s a sound j - 1)) _ β (λ _ y. y) m′ (room s a sound j lj I i ki)
+        (subst (λ x. member (last β) (x .detected) ≡ false) (is-scanned j i ki lj) u′)) in
+        (v, lv, tol-mono plan
+        (λ c. not (member c (scan jE i .detected)) && T.others β (λ q. some (read plan (scan jE i .cells) (q ∷ β))) v c)
+        (λ c. not (member c (scan j i .detected)) && T.others β (λ q. some (read plan (scan j i .cells) (q ∷ β))) v c)
+        (λ c lc z.
+        let out = not-t (member c (scan jE i .detected)) (and-l (not (member c (scan jE i .detected))) (T.others β (λ q. some (read plan (scan jE i .cells) (q ∷ β))) v c) z) in
+        let oth = and-r (not (member c (scan jE i .detected))) (T.others β (λ q. some (read plan (scan jE i .cells) (q ∷ β))) v c) z in
+        let b-out = not-t (occurs c β) (and-l (not (occurs c β)) (not (same (some (read plan (scan jE i .cells) (c ∷ β))) (some v))) oth) in
+        let label = node-label plan i (suc (suc e)) (c ∷ β) (node-has plan i e β c m lc b-out) in
+        let cell : read plan (scan jE i .cells) (c ∷ β) ≡ read plan (scan j i .cells) (c ∷ β) =
+        ap (λ x. read plan (scan x i .cells) (c ∷ β)) (sym back) ∙ run-keeps i ki (R - suc (suc e)) j (omega arith) (omega arith) ld (suc (suc e)) (c ∷ β) label (omega arith) in
+        and-true (not (member c (scan j i .detected))) (T.others β (λ q. some (read plan (scan j i .cells) (q ∷ β))) v c)
+        (true-not (member c (scan j i .detected)) (is-false (member c (scan j i .detected)) (λ y. clash (more c y) out)))
+        (subst (λ x. (not (occurs c β) && not (same (some x) (some v))) ≡ true) cell oth))
+        t)
+
+    -- And what rule FD2 leaves of one.
+    pub spared-fd2 : (e k : ℕ) (β : Label) → List·Memᴰ β (inner plan i (suc e)) → suc (suc e) + k ≡ R → length β ≡ suc e → member (last β) (at s a (suc jE) i .rec .detected) ≡ false
+        → (v : ℕ) × (v < plan .span)
+        × (tol plan (λ c. T.others β (λ q. T.resolve (inst plan) i (read plan (scan jE i .cells)) k (q ∷ β)) v c || member c (scan jE i .detected)) ≡ true)
+    unfolding byResolving
+    spared-fd2 e k β m eq size u =
+        let cells = scan jE i .cells in
+        let (v, lv, t) = levels-spared plan i cells (R - 1) (scan jE i .detected) (suc e) β (omega arith) (omega arith) m
+        (subst (λ x. member (last β) x ≡ false) (ended-board jE i ki lE (omega arith)) u) in
+        let left : R - suc (length β) ≡ k = omega arith in
+        (v, lv, tol-mono plan
+        (λ c. T.others β (λ q. T.resolve (inst plan) i (read plan cells) k (q ∷ β)) v c || member c (scan jE i .detected))
+        (λ c. T.others β (byResolving plan i cells β) v c || member c (scan jE i .detected))
+        (λ c _ z. subst (λ o. ((not (occurs c β) && not (same o (some v))) || member c (scan jE i .detected)) ≡ true)
+        (sym (ap (λ x. resolve plan i cells x (c ∷ β)) left ∙ resolve-inst plan i cells k (c ∷ β))) z)
+        t)
