@@ -54,6 +54,11 @@ module _ (s : Setting) (a : Adversary) (sound : Sound s) where
   abbrev pub open-round : ℕ → ℕ
   open-round j = stepRound plan (suc j) .0
 
+  -- The root cell after conversion.
+  pub root-read : (x : ℕ) (c : List ℕ) → x < plan .span → read plan (rootOnly (plan .n) x c) (plan .dealer ∷ []) ≡ x
+  unfolding read cellAt place levelStart levelSize rank rootOnly
+  root-read x c small = value-same plan x small
+
   pub record Inv (j : ℕ) : Type 0 where
     -- lists hold faulty boards only
     pub lists : (i : ℕ) → keeper s i ≡ true → T.Sub (plan .n) (listOf (at s a j i .rec .detected)) (listOf F)
@@ -65,7 +70,7 @@ module _ (s : Setting) (a : Adversary) (sound : Sound s) where
         → read plan (at s a j i .cells) (plan .dealer ∷ []) ≡ s .word
 
   module _ (j : ℕ) (l : j < steps plan) (I : Inv j) where
-    some-value : 0 < plan .span
+    pub some-value : 0 < plan .span
     some-value = omega (arith, plan-facts plan (sound .accepted) .two-values)
 
     pub dealer-below : plan .dealer < plan .n
@@ -347,8 +352,6 @@ module _ (s : Setting) (a : Adversary) (sound : Sound s) where
             let end : open-round j ≡ rounds plan .0 = omega (arith, high i ki) in
             let turn = next-run plan (stepRun plan (suc j)) (stepRound plan (suc j)) (sound .accepted) (position s a sound j i ki x l) end (more-runs s a sound j i ki x l more end) in
             ap (λ z. stepRound plan (suc z) .0) (sym (number s a sound j i ki x l)) ∙ ap (λ (k : Round). k .0) (turn .1)
-        root-read : (x : ℕ) (cells : List ℕ) → x < plan .span → read plan (rootOnly (plan .n) x cells) (plan .dealer ∷ []) ≡ x
-        root-read x cells small = unfold read cellAt place levelStart levelSize rank rootOnly in value-same plan x small
 
   -- At the start lists are empty.
   pub inv-start : 0 < steps plan → Inv 0

@@ -1,0 +1,143 @@
+-- The synchronous session agrees: it is a session of the theory, for every accepted plan, tolerated F and adversary.
+-- Assumes nothing.
+use Prim.Native.Nat.{ℕ, zero, suc, _+_, _-_, _*_, _≤_, _<_}
+use mathlib.Core.Path.{_≡_, refl, sym, _∙_, ap, subst}
+use mathlib.Core.Logic.{_≢_, _⊎_, inl, inr, ⊎-elim}
+use mathlib.Core.Bool.{Bool, true, false, not, _&&_, _||_, cond}
+use mathlib.Core.List.{List, [], _∷_, List·Memᴰ}
+use mathlib.Core.Option.{Option, some, none, Option·getD}
+use native.Mathlib.Omega.{arith}
+use native.Mathlib.Nat.{suc-mul, mul-le-mul-right, zero-mul}
+use lib.Dec.{eqb, ltb}
+use lib.ListN.{length, getD}
+use borrow.Author.Tests.{eqb-true, eqb-false, eq-eqb, ltb-true, lt-ltb}
+use Rattle.sets.specs.Search.{count}
+use Rattle.sets.specs.Sets.{member, setOf, size}
+use Rattle.sets.proofs.Tests.{cases, clash, and-true}
+use Rattle.sets.proofs.Count.{count-same}
+use Rattle.sets.proofs.Member.{member-setOf, setOf-below, size-count}
+use Rattle.plan.specs.declared.plan.Plan.{Plan}
+use Rattle.plan.specs.declared.schedule.Run.{Run}
+use Rattle.plan.specs.declared.schedule.Round.{Round}
+use Rattle.plan.specs.Schedule.{height, isCut, rounds, runs, steps, step, stepRun, stepRound}
+use Rattle.plan.proofs.Levels.{rounds-pos, runs-pos, rounds-full, rounds-cut}
+use Rattle.plan.proofs.Height.{height-most}
+use Rattle.plan.proofs.Steps.{Has, run-of-step, round-of-step, step-high, later-rounds, runs-enough, cut-four}
+use Rattle.tree.specs.Labels.{Label, occurs, last}
+use Rattle.tree.proofs.Labels.{root-has}
+use Rattle.theory.specs.Tree as T
+use Rattle.theory.specs.Tree.{Node, root, child}
+use Rattle.theory.specs.Runs as U
+use Rattle.theory.proofs.Agreement.{persistence, validity, detection, cut-agreement, full-agreement}
+use Rattle.protocol.specs.Nodes.{default, read, internal, nodes, inner}
+use Rattle.protocol.specs.Detection.{Scan, resolve, resolveRoot, detectLevels}
+use Rattle.protocol.specs.Rounds.{Board, gather, convert, rootOnly}
+use Rattle.protocol.specs.Session.{Adversary, Setting, at}
+use Rattle.protocol.specs.Lists.{keeper, Sound}
+use Rattle.protocol.proofs.Nodes.{inner-has, no-node}
+use Rattle.protocol.proofs.Judgement.{plan-facts}
+use Rattle.protocol.proofs.Bounds.{root-small}
+use Rattle.protocol.proofs.Instance.{inst, tol, node-mem, node-level, resolve-inst}
+use Rattle.protocol.proofs.Gathering.{listOf}
+use Rattle.protocol.proofs.Synchronous.{keeper-facts, standing}
+use Rattle.protocol.proofs.Delivery.{good, healthy, healthy-keeper}
+use Rattle.protocol.proofs.Soundness.{open-round, inv, flow, scan-is, scan-lists, scan-root, run-ends, some-value, dealer-below, lists-within, root-read}
+use Rattle.protocol.proofs.Runs.{scan, scan-other, lists-grow, run-keeps, round-step, masked, spared-fd1, spared-fd2}
+
+module _ (s : Setting) (a : Adversary) (sound : Sound s) where
+  abbrev plan : Plan
+  plan = s .plan
+
+  abbrev F : ℕ
+  F = s .faulty
+
+  abbrev R : ℕ
+  R = rounds plan .0
+
+  -- The step, from 0, that closes round R of run t, from 0.
+  abbrev pub last-step : ℕ → ℕ
+  last-step t = suc t * (R - 1)
+
+  module _ (t : ℕ) (lt : t < runs plan .0) where
+    ended : Has plan (record { 0 = suc t }) (rounds plan)
+    ended = record {
+      run-low = omega arith;
+      run-high = lt;
+      round-low = rounds-pos plan;
+      round-later = λ ne. later-rounds plan (sound .accepted) (let z : suc t ≢ 1 = ne in omega arith);
+      round-high = omega arith;
+    }
+
+    number : step plan (record { 0 = suc t }) (rounds plan) ≡ suc (last-step t)
+    unfolding step
+    number = let z : suc t - 1 ≡ t = omega arith in ap (λ x. x * (R - 1) + R) z ∙ omega (arith, suc-mul t (R - 1), rounds-pos plan)
+
+    pub in-time : last-step t < steps plan
+    in-time = let h = step-high plan (record { 0 = suc t }) (rounds plan) ended in omega (arith, number)
+
+    pub at-end : open-round s a sound (last-step t) ≡ R
+    at-end = ap (λ z. stepRound plan z .0) (sym number) ∙ ap (λ (k : Round). k .0) (round-of-step plan (record { 0 = suc t }) (rounds plan) ended)
+
+    pub run-number : stepRun plan (suc (last-step t)) .0 ≡ suc t
+    run-number = ap (λ z. stepRun plan z .0) (sym number) ∙ ap (λ (k : Run). k .0) (run-of-step plan (record { 0 = suc t }) (rounds plan) ended)
+
+  -- The session in the theory's terms: cells as conversion begins, lists before a run and as conversion begins.
+  abbrev pub cells : ℕ → U.Cells
+  cells t i α = read plan (scan s a sound (last-step t) i .cells) α
+
+  abbrev pub mids : ℕ → ℕ → T.Boards
+  mids t i = listOf (scan s a sound (last-step t) i .detected)
+
+  -- The number of steps before a run.
+  abbrev pub first-step : ℕ → ℕ
+  first-step zero = 0
+  first-step (suc t) = suc (last-step t)
+
+  abbrev pub lists : ℕ → ℕ → T.Boards
+  lists t i = listOf (at s a (first-step t) i .rec .detected)
+
+  -- A run's first frames after round 1 come R - 2 steps before its end.
+  room-before : (t : ℕ) → t < runs plan .0 → first-step t + (R - 2) ≤ last-step t
+  room-before zero lt = omega (arith, suc-mul 0 (R - 1), zero-mul (R - 1))
+  room-before (suc t) lt =
+      let two = later-rounds plan (sound .accepted) (omega arith) in
+      omega (arith, suc-mul (suc t) (R - 1))
+
+  positive : (x : ℕ) → (x ≡ 0 → ⊥) → x ≡ suc (x - 1)
+  positive x h = let ne : x ≢ 0 = h in omega arith
+
+  -- A node of the theory that is internal, as the definitions have it.
+  inner-node : {i k : ℕ} {α : Label} → Node (inst plan) i (suc k) α → internal plan i α ≡ true
+      → List·Memᴰ α (inner plan i (suc (length α - 1))) × (suc (suc (length α - 1)) + k ≡ R) × (length α ≡ suc (length α - 1))
+  inner-node {i} {k} {α} N inn =
+      let size = positive (length α) (λ z. no-node plan i α (subst (λ x. List·Memᴰ α (nodes plan i x)) z (node-mem plan N))) in
+      let level = node-level plan N in
+      (subst (λ x. List·Memᴰ α (inner plan i x)) size (inner-has plan i (length α) α (node-mem plan N) inn), omega arith, size)
+
+  pub run : (t : ℕ) → t < runs plan .0 → U.Run (inst plan) (listOf F) (cells t) (lists t) (mids t) (lists (suc t))
+  run t lt = record {
+    flow = flow s a sound (last-step t) (in-time t lt) (inv s a sound (last-step t) (in-time t lt)) (at-end t lt);
+    mask = λ {p = i} {r} {k} {α} H N inn lr out on.
+        let ki = healthy-keeper s a sound i H in
+        let (m, eq, size) = inner-node N inn in
+        masked s a sound (last-step t) (in-time t lt) (at-end t lt) i ki r (length α - 1) α lr m out (omega arith) (first-step t) (room-before t lt) on;
+    mid-sound = λ {p = i} H.
+        let ki = healthy-keeper s a sound i H in
+        let I = inv s a sound (last-step t) (in-time t lt) in
+        subst (λ x. T.Sub (plan .n) (listOf (x .detected)) (listOf F)) (sym (scan-is s a sound (last-step t) (in-time t lt) I i ki))
+        (scan-lists s a sound (last-step t) (in-time t lt) I i ki);
+    end-sound = λ {p = i} H. lists-within s a sound (suc (last-step t)) i (in-time t lt) (healthy-keeper s a sound i H);
+    grows = λ {p = i} H r lr on.
+        let ki = healthy-keeper s a sound i H in
+        let far = room-before t lt in
+        subst (λ x. member r (at s a x i .rec .detected) ≡ true) (let z : first-step t + (suc (last-step t) - first-step t) ≡ suc (last-step t) = omega arith in z)
+        (lists-grow s a sound i ki (suc (last-step t) - first-step t) (first-step t) (let h = in-time t lt in omega arith) r on);
+    fd1 = λ {p = i} {r} {k} {α} H N inn nd u.
+        let ki = healthy-keeper s a sound i H in
+        let (m, eq, size) = inner-node N inn in
+        spared-fd1 s a sound (last-step t) (in-time t lt) (at-end t lt) i ki (length (r ∷ α) - 1) (r ∷ α) m (omega arith) (unfold last in u);
+    fd2 = λ {p = i} {r} {k} {α} H N inn u.
+        let ki = healthy-keeper s a sound i H in
+        let (m, eq, size) = inner-node N inn in
+        spared-fd2 s a sound (last-step t) (in-time t lt) (at-end t lt) i ki (length (r ∷ α) - 1) k (r ∷ α) m eq size (unfold last in u);
+  }
