@@ -141,3 +141,51 @@ module _ (s : Setting) (a : Adversary) (sound : Sound s) where
         let (m, eq, size) = inner-node N inn in
         spared-fd2 s a sound (last-step t) (in-time t lt) (at-end t lt) i ki (length (r ∷ α) - 1) k (r ∷ α) m eq size (unfold last in u);
   }
+
+  -- The root that the end of a run leaves.
+  abbrev roots : ℕ → ℕ → ℕ
+  roots = U.rootAfter (inst plan) cells
+
+  resolved : (t i : ℕ) → resolveRoot plan i (scan s a sound (last-step t) i .cells) ≡ roots t i
+  unfolding resolveRoot
+  resolved t i = ap (λ o. Option·getD o (default plan)) (resolve-inst plan i (scan s a sound (last-step t) i .cells) (R - 1) (plan .dealer ∷ []))
+
+  module _ (t : ℕ) (lt : t < runs plan .0) (i : ℕ) (ki : keeper s i ≡ true) where
+    left-root : at s a (suc (last-step t)) i .cells ≡ rootOnly (plan .n) (roots t i) (scan s a sound (last-step t) i .cells)
+    unfolding convert
+    left-root =
+        let l = in-time t lt in
+        ap (λ (b : Board). b .cells) (run-ends s a sound (last-step t) l (inv s a sound (last-step t) l) i ki (let z : R ≤ open-round s a sound (last-step t) = omega (arith, at-end t lt) in z))
+        ∙ ap (λ x. rootOnly (plan .n) x (scan s a sound (last-step t) i .cells)) (resolved t i)
+
+    root-value : roots t i < plan .span
+    root-value =
+        let l = in-time t lt in
+        subst (λ x. x < plan .span) (resolved t i) (root-small plan (some-value s a sound (last-step t) l (inv s a sound (last-step t) l)) i (scan s a sound (last-step t) i .cells))
+
+  pub session : U.Session (inst plan) (listOf F) (runs plan .0) (s .word) cells lists mids
+  session = record {
+    run = run;
+    dealt = λ some f i H _.
+        let ki = healthy-keeper s a sound i H in
+        let l = in-time 0 some in
+        let I = inv s a sound (last-step 0) l in
+        ap (λ x. read plan (x .cells) (plan .dealer ∷ [])) (scan-is s a sound (last-step 0) l I i ki) ∙ scan-root s a sound (last-step 0) l I f i ki;
+    next = λ {p = i} t lt H. passed-on t lt i (healthy-keeper s a sound i H);
+  }
+    where
+      passed-on : (t : ℕ) → suc t < runs plan .0 → (i : ℕ) → keeper s i ≡ true → cells (suc t) i (plan .dealer ∷ []) ≡ roots t i
+      passed-on t lt i ki =
+          let two = later-rounds plan (sound .accepted) (omega arith) in
+          let lE = in-time (suc t) lt in
+          let (j, back, ek) = round-step s a sound (last-step (suc t)) lE (at-end (suc t) lt) i ki 2 (omega arith) two in
+          let here : j ≡ suc (last-step t) = omega (arith, suc-mul (suc t) (R - 1)) in
+          let lj : j < steps plan = omega arith in
+          let ld = dealer-below s a sound j lj (inv s a sound j lj) in
+          let w = root-has (plan .n) (plan .dealer) in
+          ap (λ x. read plan (scan s a sound x i .cells) (plan .dealer ∷ [])) (sym back)
+          ∙ run-keeps s a sound i ki (R - 2) j (omega arith) (omega arith) ld 1 (plan .dealer ∷ []) w (omega arith)
+          ∙ scan-other s a sound j i ki lj 1 (plan .dealer ∷ []) w (let z : 1 ≢ open-round s a sound j = omega arith in z)
+          ∙ ap (λ x. read plan (at s a x i .cells) (plan .dealer ∷ [])) here
+          ∙ ap (λ x. read plan x (plan .dealer ∷ [])) (left-root t (omega arith) i ki)
+          ∙ root-read s a sound (roots t i) (scan s a sound (last-step t) i .cells) (root-value t (omega arith) i ki)
