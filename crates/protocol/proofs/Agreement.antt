@@ -68,7 +68,7 @@ module _ (s : Setting) (a : Adversary) (sound : Sound s) where
       round-high = omega arith;
     }
 
-    number : step plan (record { 0 = suc t }) (rounds plan) ≡ suc (last-step t)
+    pub number : step plan (record { 0 = suc t }) (rounds plan) ≡ suc (last-step t)
     unfolding step
     number = let z : suc t - 1 ≡ t = omega arith in ap (λ x. x * (R - 1) + R) z ∙ omega (arith, suc-mul t (R - 1), rounds-pos plan)
 
@@ -143,15 +143,15 @@ module _ (s : Setting) (a : Adversary) (sound : Sound s) where
   }
 
   -- The root that the end of a run leaves.
-  abbrev roots : ℕ → ℕ → ℕ
+  abbrev pub roots : ℕ → ℕ → ℕ
   roots = U.rootAfter (inst plan) cells
 
-  resolved : (t i : ℕ) → resolveRoot plan i (scan s a sound (last-step t) i .cells) ≡ roots t i
+  pub resolved : (t i : ℕ) → resolveRoot plan i (scan s a sound (last-step t) i .cells) ≡ roots t i
   unfolding resolveRoot
   resolved t i = ap (λ o. Option·getD o (default plan)) (resolve-inst plan i (scan s a sound (last-step t) i .cells) (R - 1) (plan .dealer ∷ []))
 
   module _ (t : ℕ) (lt : t < runs plan .0) (i : ℕ) (ki : keeper s i ≡ true) where
-    left-root : at s a (suc (last-step t)) i .cells ≡ rootOnly (plan .n) (roots t i) (scan s a sound (last-step t) i .cells)
+    pub left-root : at s a (suc (last-step t)) i .cells ≡ rootOnly (plan .n) (roots t i) (scan s a sound (last-step t) i .cells)
     unfolding convert
     left-root =
         let l = in-time t lt in

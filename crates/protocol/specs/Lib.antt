@@ -7,4 +7,5 @@ pub mod Session
 pub mod Sheet
 pub mod Playing
 pub mod Lists
+pub mod Claims
 pub mod Cases

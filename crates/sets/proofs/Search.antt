@@ -9,7 +9,7 @@ use native.Mathlib.Numerals.{add-one}
 use lib.Dec.{eqb, ltb}
 use borrow.Author.Tests.{eqb-true, eqb-false, ltb-true, ltb-false}
 use Rattle.sets.specs.Search.{first, any}
-use Rattle.sets.proofs.Tests.{cases, clash, is-true}
+use Rattle.sets.proofs.Tests.{cases, clash, is-true, same-test}
 
 module _ (f : ℕ → Bool) where
   first-hit : (left i : ℕ) → f i ≡ true → first f (suc left) i ≡ i
@@ -80,6 +80,13 @@ module _ (f : ℕ → Bool) where
 
   pub any-of : (k i : ℕ) → i < k → f i ≡ true → any f k ≡ true
   any-of k i l t = is-true (any f k) (λ e. clash t (any-false k e i l))
+
+-- Tests that agree below k.
+pub any-same : (f g : ℕ → Bool) (k : ℕ) → ((i : ℕ) → i < k → f i ≡ g i) → any f k ≡ any g k
+any-same f g k h =
+    same-test (any f k) (any g k)
+    (λ e. let (i, l, t) = any-true f k e in any-of g k i l (sym (h i l) ∙ t))
+    (λ e. let (i, l, t) = any-true g k e in any-of f k i l (h i l ∙ t))
 
 pub seek-start : (f : ℕ → Bool) (n : ℕ) → first f (n - 0) 0 ≡ first f n 0
 seek-start f n = ap (λ m. first f m 0) (let z : n - 0 ≡ n = omega arith in z)

@@ -1,0 +1,150 @@
+-- Agreement of the synchronous session, for every accepted plan, tolerated F and adversary.
+-- Assumes nothing.
+use Prim.Native.Nat.{ℕ, zero, suc, _+_, _-_, _*_, _≤_, _<_, _^_}
+use mathlib.Core.Path.{_≡_, refl, sym, _∙_, ap, subst}
+use mathlib.Core.Logic.{_≢_}
+use mathlib.Core.Bool.{Bool, true, false, not, _&&_, cond, and-assoc}
+use native.Mathlib.Omega.{arith}
+use native.Mathlib.Nat.{suc-mul}
+use lib.Dec.{eqb, ltb}
+use lib.ListN.{getD}
+use borrow.Author.Tests.{eq-eqb, lt-ltb}
+use Rattle.sets.specs.Search.{any, count}
+use Rattle.sets.specs.Sets.{member, setOf, size, within}
+use Rattle.sets.proofs.Tests.{cases, and-true}
+use Rattle.sets.proofs.Search.{any-same}
+use Rattle.sets.proofs.Count.{count-same}
+use Rattle.sets.proofs.Member.{member-within, member-setOf, setOf-below, size-count}
+use Rattle.plan.specs.declared.plan.Plan.{Plan}
+use Rattle.plan.specs.Schedule.{listed, height, isCut, rounds, runs, steps, step, stepRun}
+use Rattle.plan.proofs.Levels.{rounds-pos, runs-pos, rounds-full, rounds-cut}
+use Rattle.plan.proofs.Height.{height-most}
+use Rattle.plan.proofs.Steps.{runs-enough, cut-four}
+use Rattle.tree.specs.Cells.{blank}
+use Rattle.theory.specs.Tree as T
+use Rattle.theory.specs.Runs as U
+use Rattle.theory.proofs.Agreement.{persistence, validity, detection, cut-agreement, full-agreement}
+use Rattle.protocol.specs.declared.records.Record.{Record}
+use Rattle.protocol.specs.Rounds.{Board, rootOnly, convert, close}
+use Rattle.protocol.specs.Session.{Adversary, Setting, at}
+use Rattle.protocol.specs.Lists.{keeper, Sound}
+use Rattle.protocol.specs.Claims.{ended, rootAfter, onEveryList, SessionAgreement, Synchronous}
+use Rattle.protocol.proofs.Judgement.{Good, plan-facts}
+use Rattle.protocol.proofs.Instance.{inst, tol}
+use Rattle.protocol.proofs.Reached.{close-good, close-plan}
+use Rattle.protocol.proofs.Gathering.{listOf}
+use Rattle.protocol.proofs.Synchronous.{keeper-facts, standing, ready, ready-open, after-step, begun-shape, at-start}
+use Rattle.protocol.proofs.Delivery.{good, healthy, healthy-keeper, st}
+use Rattle.protocol.proofs.Soundness.{open-round, inv, run-ends, lists-within}
+use Rattle.protocol.proofs.Runs.{scan}
+use Rattle.protocol.proofs.Agreement.{last-step, in-time, at-end, number, run-number, cells, lists, mids, roots, resolved, left-root, session}
+
+module _ (s : Setting) (a : Adversary) (sound : Sound s) where
+  abbrev plan : Plan
+  plan = s .plan
+
+  abbrev F : ℕ
+  F = s .faulty
+
+  abbrev last-run : ℕ
+  last-run = runs plan .0 - 1
+
+  in-runs : last-run < runs plan .0
+  in-runs = omega (arith, runs-pos plan)
+
+  -- The session's last step.
+  last-of-all : suc (last-step s a sound last-run) ≡ steps plan
+  unfolding steps
+  last-of-all = let z : suc last-run ≡ runs plan .0 = omega (arith, runs-pos plan) in omega (arith, suc-mul last-run (rounds plan .0 - 1), rounds-pos plan)
+
+  -- Lists name boards below n.
+  list-below : (j i : ℕ) → j ≤ steps plan → keeper s i ≡ true → at s a j i .rec .detected < 2 ^ plan .n
+  list-below zero i h ki =
+      let x = standing s a sound 0 i ki (omega (arith, last-of-all)) in
+      subst (λ (r : Record). at s a 0 i .rec .detected < 2 ^ r .plan .n) (x .shape) (x .good .detected-below)
+  list-below (suc j) i h ki =
+      let x = st s a sound j i ki h in
+      let b = ready s a sound j i ki x h in
+      subst (λ (c : Board). c .rec .detected < 2 ^ plan .n) (sym (after-step s a sound j i ki x h))
+      (subst (λ (p : Plan). close b .rec .detected < 2 ^ p .n) (close-plan b) (close-good b (ready-open s a sound j i ki x h .good) .detected-below))
+
+  root-after : (t : ℕ) → t < runs plan .0 → (i : ℕ) → keeper s i ≡ true → rootAfter s a (suc t) i ≡ roots s a sound t i
+  unfolding rootAfter ended rootOnly
+  root-after t lt i ki =
+      ap (λ x. getD (at s a x i .cells) 0 blank) (number s a sound t lt) ∙ ap (λ c. getD c 0 blank) (left-root s a sound t lt i ki)
+
+  decision : (i : ℕ) (ki : keeper s i ≡ true)
+      → (at s a (steps plan) i .rec .decided ≡ true) × (at s a (steps plan) i .rec .decision ≡ roots s a sound last-run i)
+  unfolding convert
+  decision i ki =
+      let j = last-step s a sound last-run in
+      let l = in-time s a sound last-run in-runs in
+      let e = run-ends s a sound j l (inv s a sound j l) i ki (let z : rounds plan .0 ≤ open-round s a sound j = omega (arith, at-end s a sound last-run in-runs) in z) in
+      let last : eqb (stepRun plan (suc j) .0) (runs plan .0) ≡ true =
+      eq-eqb (stepRun plan (suc j) .0) (runs plan .0) (run-number s a sound last-run in-runs ∙ (let z : suc last-run ≡ runs plan .0 = omega (arith, runs-pos plan) in z)) in
+      (ap (λ x. at s a x i .rec .decided) (sym last-of-all) ∙ ap (λ (b : Board). b .rec .decided) e ∙ last,
+      ap (λ x. at s a x i .rec .decision) (sym last-of-all) ∙ ap (λ (b : Board). b .rec .decision) e ∙ rw last (resolved s a sound last-run i))
+
+  -- A tolerated set with the dealer has fewer boards than a tree that is not cut has levels.
+  small-sets : isCut plan ≡ false → (b : T.Boards) → tol plan b ≡ true → b (plan .dealer) ≡ true → count b (plan .n) ≤ rounds plan .0 - 1
+  unfolding tol
+  small-sets full b t d =
+      let f = plan-facts plan (sound .accepted) in
+      let h = height-most plan (setOf b (plan .n)) t
+      (member-setOf b (plan .n) (plan .dealer) ∙ and-true (ltb (plan .dealer) (plan .n)) (b (plan .dealer)) (lt-ltb (plan .dealer) (plan .n) (f .dealer-below)) d) in
+      let e = ap (λ x. x .0) (rounds-full plan full) in
+      let c = size-count (plan .n) (setOf b (plan .n)) (setOf-below b (plan .n)) (omega (arith, f .admission .most-boards)) in
+      let same = count-same (λ i. member i (setOf b (plan .n))) b (plan .n) (λ i l. member-setOf b (plan .n) i ∙ rw (lt-ltb i (plan .n) l)) in
+      omega arith
+
+  agreed : (i k : ℕ) → keeper s i ≡ true → keeper s k ≡ true → roots s a sound last-run i ≡ roots s a sound last-run k
+  agreed i k ki kk =
+      let G = good s a sound in
+      let S = session s a sound in
+      cases (isCut plan)
+      (λ e. let four = cut-four plan (sound .accepted) e in
+      let r = ap (λ x. x .0) (rounds-cut plan e) in
+      cut-agreement G S (plan .depth - 3) last-run (let z : rounds plan .0 - 1 ≡ suc (suc (plan .depth - 3)) = omega arith in z) (omega arith)
+      (runs-enough plan (sound .accepted) e) in-runs (healthy s a sound i ki) (healthy s a sound k kk))
+      (λ e. full-agreement G S (small-sets e) last-run in-runs (healthy s a sound i ki) (healthy s a sound k kk))
+
+  -- The boards on every list, as the theory has them.
+  every-list : (t : ℕ) → t < runs plan .0 → (r : ℕ) → U.global (inst plan) (listOf F) (lists s a sound (suc t)) r ≡ onEveryList s a (suc t) r
+  unfolding U.allHealthy onEveryList ended keeper
+  every-list t lt r =
+      ap not (any-same
+      (U.fails (inst plan) (listOf F) (λ i. lists s a sound (suc t) i r))
+      (λ i. keeper s i && not (member r (ended s a (suc t) i .rec .detected))) (plan .n)
+      (λ i l. rw (lt-ltb i (plan .n) l, number s a sound t lt) (sym (and-assoc (not (member i F)) (not (eqb i (plan .dealer))) _))))
+
+  pub session-agreement : SessionAgreement s a
+  session-agreement = record {
+    sound = λ j i h ki. member-within (plan .n) (at s a j i .rec .detected) F (list-below j i h ki) (lists-within s a sound j i h ki);
+    decided = λ i ki. decision i ki .0;
+    equal = λ i k ki kk. decision i ki .1 ∙ agreed i k ki kk ∙ sym (decision k kk .1);
+    dealers = λ f i ki. decision i ki .1 ∙ validity (good s a sound) (session s a sound) f last-run i in-runs (healthy s a sound i ki);
+    stays = λ t u v low le high h i ki. stay (t - 1) (u - 1) v t u (omega arith) (omega arith) le high h i ki;
+    bound = λ e t low high i k ki kk ne. bounded e (t - 1) t (omega arith) high i k ki kk ne;
+  }
+    where
+      stay : (t u v t′ u′ : ℕ) → t′ ≡ suc t → u′ ≡ suc u → t′ ≤ u′ → u′ ≤ runs plan .0 → ((i : ℕ) → keeper s i ≡ true → rootAfter s a t′ i ≡ v)
+          → (i : ℕ) → keeper s i ≡ true → rootAfter s a u′ i ≡ v
+      stay t u v t′ u′ et eu le high h i ki =
+          ap (λ x. rootAfter s a x i) eu ∙ root-after u (omega arith) i ki
+          ∙ persistence (good s a sound) (session s a sound) t u v (omega arith) (omega arith)
+          (λ k H. let kk = healthy-keeper s a sound k H in sym (root-after t (omega arith) k kk) ∙ ap (λ x. rootAfter s a x k) (sym et) ∙ h k kk)
+          i (healthy s a sound i ki)
+      bounded : isCut plan ≡ true → (t t′ : ℕ) → t′ ≡ suc t → t′ ≤ runs plan .0 → (i k : ℕ) → keeper s i ≡ true → keeper s k ≡ true
+          → rootAfter s a t′ i ≢ rootAfter s a t′ k → t′ * (plan .depth - 3) + 1 ≤ count (onEveryList s a t′) (plan .n)
+      bounded e t t′ et high i k ki kk ne =
+          let four = cut-four plan (sound .accepted) e in
+          let r = ap (λ x. x .0) (rounds-cut plan e) in
+          let lt : t < runs plan .0 = omega arith in
+          let many = detection (good s a sound) (session s a sound) (plan .depth - 3) (let z : rounds plan .0 - 1 ≡ suc (suc (plan .depth - 3)) = omega arith in z)
+          t lt (healthy s a sound i ki) (healthy s a sound k kk)
+          (λ z. ne (subst (λ x. rootAfter s a x i ≡ rootAfter s a x k) (sym et) (root-after t lt i ki ∙ z ∙ sym (root-after t lt k kk)))) in
+          let same = count-same (U.global (inst plan) (listOf F) (lists s a sound (suc t))) (onEveryList s a (suc t)) (plan .n) (λ q _. every-list t lt q) in
+          subst (λ x. x * (plan .depth - 3) + 1 ≤ count (onEveryList s a x) (plan .n)) (sym et) (omega arith)
+
+pub synchronous : Synchronous
+synchronous = session-agreement
