@@ -1,46 +1,37 @@
 -- The synchronous session agrees: it is a session of the theory, for every accepted plan, tolerated F and adversary.
 -- Assumes nothing.
 use Prim.Native.Nat.{ℕ, zero, suc, _+_, _-_, _*_, _≤_, _<_}
-use mathlib.Core.Path.{_≡_, refl, sym, _∙_, ap, subst}
-use mathlib.Core.Logic.{_≢_, _⊎_, inl, inr, ⊎-elim}
-use mathlib.Core.Bool.{Bool, true, false, not, _&&_, _||_, cond}
-use mathlib.Core.List.{List, [], _∷_, List·Memᴰ}
-use mathlib.Core.Option.{Option, some, none, Option·getD}
+use mathlib.Core.Path.{_≡_, sym, _∙_, ap, subst}
+use mathlib.Core.Logic.{_≢_}
+use mathlib.Core.Bool.{true}
+use mathlib.Core.List.{[], _∷_, List·Memᴰ}
+use mathlib.Core.Option.{some, Option·getD}
 use native.Mathlib.Omega.{arith}
-use native.Mathlib.Nat.{suc-mul, mul-le-mul-right, zero-mul}
-use lib.Dec.{eqb, ltb}
-use lib.ListN.{length, getD}
-use borrow.Author.Tests.{eqb-true, eqb-false, eq-eqb, ltb-true, lt-ltb}
-use Rattle.sets.specs.Search.{count}
-use Rattle.sets.specs.Sets.{member, setOf, size}
-use Rattle.sets.proofs.Tests.{cases, clash, and-true}
-use Rattle.sets.proofs.Count.{count-same}
-use Rattle.sets.proofs.Member.{member-setOf, setOf-below, size-count}
+use native.Mathlib.Nat.{suc-mul, zero-mul}
+use lib.ListN.{length}
+use Rattle.sets.specs.Sets.{member, size}
 use Rattle.plan.specs.declared.plan.Plan.{Plan}
 use Rattle.plan.specs.declared.schedule.Run.{Run}
 use Rattle.plan.specs.declared.schedule.Round.{Round}
-use Rattle.plan.specs.Schedule.{height, isCut, rounds, runs, steps, step, stepRun, stepRound}
-use Rattle.plan.proofs.Levels.{rounds-pos, runs-pos, rounds-full, rounds-cut}
-use Rattle.plan.proofs.Height.{height-most}
-use Rattle.plan.proofs.Steps.{Has, run-of-step, round-of-step, step-high, later-rounds, runs-enough, cut-four}
-use Rattle.tree.specs.Labels.{Label, occurs, last}
+use Rattle.plan.specs.Schedule.{rounds, runs, steps, step, stepRun, stepRound}
+use Rattle.plan.proofs.Levels.{rounds-pos}
+use Rattle.plan.proofs.Steps.{Has, run-of-step, round-of-step, step-high, later-rounds}
+use Rattle.tree.specs.Labels.{Label, last}
 use Rattle.tree.proofs.Labels.{root-has}
 use Rattle.theory.specs.Tree as T
-use Rattle.theory.specs.Tree.{Node, root, child}
+use Rattle.theory.specs.Tree.{Node}
 use Rattle.theory.specs.Runs as U
-use Rattle.theory.proofs.Agreement.{persistence, validity, detection, cut-agreement, full-agreement}
 use Rattle.protocol.specs.Nodes.{default, read, internal, nodes, inner}
-use Rattle.protocol.specs.Detection.{Scan, resolve, resolveRoot, detectLevels}
-use Rattle.protocol.specs.Rounds.{Board, gather, convert, rootOnly}
+use Rattle.protocol.specs.Detection.{resolveRoot}
+use Rattle.protocol.specs.Rounds.{Board, rootOnly}
 use Rattle.protocol.specs.Session.{Adversary, Setting, at}
 use Rattle.protocol.specs.Lists.{keeper, Sound}
 use Rattle.protocol.proofs.Nodes.{inner-has, no-node}
-use Rattle.protocol.proofs.Judgement.{plan-facts}
 use Rattle.protocol.proofs.Bounds.{root-small}
-use Rattle.protocol.proofs.Instance.{inst, tol, node-mem, node-level, resolve-inst}
+use Rattle.protocol.proofs.Instance.{inst, node-mem, node-level, resolve-inst}
 use Rattle.protocol.proofs.Gathering.{listOf}
-use Rattle.protocol.proofs.Synchronous.{keeper-facts, standing}
-use Rattle.protocol.proofs.Delivery.{good, healthy, healthy-keeper}
+use Rattle.protocol.proofs.Converting.{convert-cells}
+use Rattle.protocol.proofs.Delivery.{healthy-keeper}
 use Rattle.protocol.proofs.Soundness.{open-round, inv, flow, scan-is, scan-lists, scan-root, run-ends, some-value, dealer-below, lists-within, root-read}
 use Rattle.protocol.proofs.Runs.{scan, scan-other, lists-grow, run-keeps, round-step, masked, spared-fd1, spared-fd2}
 
@@ -152,11 +143,10 @@ module _ (s : Setting) (a : Adversary) (sound : Sound s) where
 
   module _ (t : ℕ) (lt : t < runs plan .0) (i : ℕ) (ki : keeper s i ≡ true) where
     pub left-root : at s a (suc (last-step t)) i .cells ≡ rootOnly (plan .n) (roots t i) (scan s a sound (last-step t) i .cells)
-    unfolding convert
     left-root =
         let l = in-time t lt in
         ap (λ (b : Board). b .cells) (run-ends s a sound (last-step t) l (inv s a sound (last-step t) l) i ki (let z : R ≤ open-round s a sound (last-step t) = omega (arith, at-end t lt) in z))
-        ∙ ap (λ x. rootOnly (plan .n) x (scan s a sound (last-step t) i .cells)) (resolved t i)
+        ∙ convert-cells _ _ ∙ ap (λ x. rootOnly (plan .n) x (scan s a sound (last-step t) i .cells)) (resolved t i)
 
     root-value : roots t i < plan .span
     root-value =

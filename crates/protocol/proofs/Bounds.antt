@@ -2,7 +2,7 @@
 -- Assumes nothing.
 use Prim.Native.Nat.{ℕ, zero, suc, _-_, _<_, _^_}
 use mathlib.Core.Path.{_≡_, refl}
-use mathlib.Core.Bool.{Bool}
+use mathlib.Core.Bool.{true, false, Bool}
 use mathlib.Core.List.{List, [], _∷_, List·Memᴰ, List·Memᴰ·head, List·Memᴰ·tail}
 use mathlib.Core.Option.{Option, some, none, Option·getD}
 use native.Mathlib.Omega.{arith}
@@ -77,6 +77,16 @@ pub insert-below : (n r s : ℕ) → r < n → s < 2 ^ n → insert r s < 2 ^ n
 unfolding insert
 insert-below n r s l h = or-lt n s (2 ^ r) h (pow-lt l)
 
+-- Rule FD2 at a node: a board whose children no value explains, with the list, joins it; else the list stays.
+module _ (p : Plan) (i : ℕ) (cells : List ℕ) (α : Label) (s : ℕ) where
+  pub detect2-joined : passes p α (byResolving p i cells α) s ≡ false → detect2 p i cells α s ≡ join (last α) s
+  unfolding detect2
+  detect2-joined e = rw e
+
+  pub detect2-kept : passes p α (byResolving p i cells α) s ≡ true → detect2 p i cells α s ≡ s
+  unfolding detect2
+  detect2-kept e = rw e
+
 module _ (p : Plan) (l : p .dealer < p .n) (i : ℕ) where
   -- These are nodes.
   abbrev pub Inner : List Label → Type 0
@@ -96,11 +106,12 @@ module _ (p : Plan) (l : p .dealer < p .n) (i : ℕ) where
       (cases (passes p α (byCell p (s .cells) α) (s .detected)) (λ e. rw e b) (λ e. rw e (join-below α (h α (List·Memᴰ·head refl)) (s .detected) b)))
 
   pub detect2-below : (cells : List ℕ) (αs : List Label) (s : ℕ) → Inner αs → s < 2 ^ p .n → detectAll2 p i cells αs s < 2 ^ p .n
-  unfolding detectAll2 detect2
+  unfolding detectAll2
   detect2-below cells [] s h b = b
   detect2-below cells (α ∷ αs) s h b =
       detect2-below cells αs (detect2 p i cells α s) (λ β w. h β (List·Memᴰ·tail w))
-      (cases (passes p α (byResolving p i cells α) s) (λ e. rw e b) (λ e. rw e (join-below α (h α (List·Memᴰ·head refl)) s b)))
+      (cases (passes p α (byResolving p i cells α) s) (λ e. rw (detect2-kept p i cells α s e) b)
+      (λ e. rw (detect2-joined p i cells α s e) (join-below α (h α (List·Memᴰ·head refl)) s b)))
 
   pub levels-below : (cells : List ℕ) (k s : ℕ) → s < 2 ^ p .n → detectLevels p i cells k s < 2 ^ p .n
   unfolding detectLevels

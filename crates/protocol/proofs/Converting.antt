@@ -1,6 +1,6 @@
 -- Rule FD2 over the levels: lists grow, a board that is not listed in the end was spared at each of its nodes, and no healthy board is listed.
 -- Assumes nothing.
-use Prim.Native.Nat.{ℕ, zero, suc, _≤_, _<_}
+use Prim.Native.Nat.{ℕ, zero, suc, _-_, _≤_, _<_}
 use mathlib.Core.Path.{_≡_, refl, sym, _∙_, subst}
 use mathlib.Core.Logic.{_≢_, ⊎-elim}
 use mathlib.Core.Bool.{true, false, not, _&&_, _||_}
@@ -15,27 +15,22 @@ use Rattle.sets.specs.Only.{same}
 use Rattle.sets.proofs.Tests.{cases, clash, is-false, is-true, or-true, or-r, or-left, or-right}
 use Rattle.sets.proofs.Search.{any-true}
 use Rattle.plan.specs.declared.plan.Plan.{Plan}
-use Rattle.plan.specs.Schedule.{listed}
+use Rattle.plan.specs.Schedule.{listed, rounds}
 use Rattle.tree.specs.Labels.{Label, occurs, last}
 use Rattle.theory.specs.Tree as T
 use Rattle.theory.proofs.Soundness.{spared}
 use Rattle.protocol.specs.Nodes.{inner}
-use Rattle.protocol.specs.Detection.{explained, byResolving, join, passes, detect2, detectAll2, detectLevels}
+use Rattle.protocol.specs.declared.records.Record.{Record}
+use Rattle.protocol.specs.Detection.{resolveRoot, Scan, explained, byResolving, passes, detect2, detectAll2, detectLevels}
+use Rattle.protocol.specs.Rounds.{rootOnly, convert}
+use Rattle.protocol.proofs.Bounds.{detect2-joined, detect2-kept}
 use Rattle.protocol.proofs.Instance.{tol, tol-mono, inst}
 use Rattle.protocol.proofs.Gathering.{listOf, join-has, join-keeps, join-inv, explained-inst}
 
 module _ (p : Plan) (i : ℕ) (cells : List ℕ) where
-  kept : (α : Label) (s : ℕ) → passes p α (byResolving p i cells α) s ≡ true → detect2 p i cells α s ≡ s
-  unfolding detect2
-  kept α s e = rw e
-
-  joined : (α : Label) (s : ℕ) → passes p α (byResolving p i cells α) s ≡ false → detect2 p i cells α s ≡ join (last α) s
-  unfolding detect2
-  joined α s e = rw e
-
   detect2-grow : (α : Label) (s r : ℕ) → member r s ≡ true → member r (detect2 p i cells α s) ≡ true
   detect2-grow α s r h =
-      cases (passes p α (byResolving p i cells α) s) (λ e. rw (kept α s e) h) (λ e. rw (joined α s e) (join-keeps (last α) s r h))
+      cases (passes p α (byResolving p i cells α) s) (λ e. rw (detect2-kept p i cells α s e) h) (λ e. rw (detect2-joined p i cells α s e) (join-keeps (last α) s r h))
 
   level-grow : (αs : List Label) (s r : ℕ) → member r s ≡ true → member r (detectAll2 p i cells αs s) ≡ true
   unfolding detectAll2
@@ -68,11 +63,11 @@ module _ (p : Plan) (i : ℕ) (cells : List ℕ) where
   unfolding passes explained tol
   spared-here α s u =
       cases (passes p α (byResolving p i cells α) s)
-      (λ e. let new = subst (λ x. member (last α) x ≡ false) (kept α s e) u in
+      (λ e. let new = subst (λ x. member (last α) x ≡ false) (detect2-kept p i cells α s e) u in
       let why : explained p α (byResolving p i cells α) s ≡ true =
       ⊎-elim (λ t. clash t new) (λ t. t) (or-true (member (last α) s) (explained p α (byResolving p i cells α) s) e) in
       any-true (λ v. tolerated (listed p) (setOf (λ c. (not (occurs c α) && not (same (byResolving p i cells α c) (some v))) || member c s) (p .n))) (p .span) why)
-      (λ e. clash (join-has (last α) s) (subst (λ x. member (last α) x ≡ false) (joined α s e) u))
+      (λ e. clash (join-has (last α) s) (subst (λ x. member (last α) x ≡ false) (detect2-joined p i cells α s e) u))
 
   level-spared : (αs : List Label) (s : ℕ) (α : Label) → List·Memᴰ α αs → member (last α) (detectAll2 p i cells αs s) ≡ false → SparedBy s α
   unfolding detectAll2
@@ -109,14 +104,14 @@ module _ (p : Plan) (i : ℕ) (cells : List ℕ) where
     unfolding passes
     detect2-sound α s N mind sound q lq t =
         cases (passes p α (byResolving p i cells α) s)
-        (λ e. sound q lq (subst (λ x. member q x ≡ true) (kept α s e) t))
+        (λ e. sound q lq (subst (λ x. member q x ≡ true) (detect2-kept p i cells α s e) t))
         (λ e. ⊎-elim
         (λ x. is-true (member q F) (λ out.
         let (v, lv, u) = mind (subst (λ z. member z F ≡ false) x out) in
         clash (explained-inst p α (byResolving p i cells α) s ∙ spared G v (byResolving p i cells α) (listOf s) N lv u sound)
         (or-r (member (last α) s) (explained p α (byResolving p i cells α) s) e)))
         (sound q lq)
-        (join-inv (last α) s q (subst (λ x. member q x ≡ true) (joined α s e) t)))
+        (join-inv (last α) s q (subst (λ x. member q x ≡ true) (detect2-joined p i cells α s e) t)))
 
     level-sound : (αs : List Label) (s : ℕ) → ((α : Label) → List·Memᴰ α αs → (left : ℕ) × T.Node (inst p) i left α × Minds α) → Sound s
         → Sound (detectAll2 p i cells αs s)
@@ -133,3 +128,13 @@ module _ (p : Plan) (i : ℕ) (cells : List ℕ) where
     levels-sound (suc k) s h sound =
         levels-sound k (detectAll2 p i cells (inner p i (suc k)) s) (λ j α low high m. h j α low (omega arith) m)
         (level-sound (inner p i (suc k)) s (λ α m. h (suc k) α (omega arith) (omega arith) m) sound)
+
+-- 01: "L stays" when a run ends.
+pub convert-grow : (r : Record) (s : Scan) (q : ℕ) → member q (s .detected) ≡ true → member q (convert r s .rec .detected) ≡ true
+unfolding convert
+convert-grow r s q h = levels-grow (r .plan) (r .board) (s .cells) (rounds (r .plan) .0 - 1) (s .detected) q h
+
+-- 01: "The resolved root becomes the root cell", in every run.
+pub convert-cells : (r : Record) (s : Scan) → convert r s .cells ≡ rootOnly (r .plan .n) (resolveRoot (r .plan) (r .board) (s .cells)) (s .cells)
+unfolding convert
+convert-cells r s = refl

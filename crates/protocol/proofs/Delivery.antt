@@ -1,50 +1,48 @@
 -- One step of the session: what healthy boards hear of one another, and that none of them is listed by rule FD1.
 -- Assumes nothing.
-use Prim.Native.Nat.{ℕ, zero, suc, _+_, _-_, _≤_, _<_, _^_}
+use Prim.Native.Nat.{ℕ, suc, _-_, _≤_, _<_, _^_}
 use mathlib.Core.Path.{_≡_, refl, sym, _∙_, ap, subst}
-use mathlib.Core.Logic.{_≢_, _⊎_, inl, inr, ⊎-elim}
-use mathlib.Core.Bool.{Bool, true, false, not, _&&_, _||_, cond}
+use mathlib.Core.Logic.{_≢_, ⊎-elim}
+use mathlib.Core.Bool.{true, false, not, _&&_}
 use mathlib.Core.List.{List, [], _∷_, map, List·Memᴰ, List·Memᴰ·not-nil}
-use mathlib.Core.Option.{Option, some, none}
+use mathlib.Core.Option.{some}
 use native.Mathlib.Omega.{arith}
 use lib.Dec.{eqb, leb, ltb}
 use lib.ListN.{length, getD}
 use lib.Pow.{pow-pos}
 use lib.Bits.{bitAnd, and-le-r}
-use borrow.Author.Tests.{eqb-true, eqb-false, eq-eqb, ne-eqb, ltb-true, lt-ltb}
+use borrow.Author.Tests.{eqb-true, eqb-false, eq-eqb, ne-eqb, lt-ltb}
 use Rattle.sets.specs.Sets.{member, within, boards}
 use Rattle.sets.specs.Structure.{tolerated}
-use Rattle.sets.proofs.Tests.{cases, clash, is-false, is-true, and-true, not-f, true-not}
+use Rattle.sets.proofs.Tests.{cases, and-true, not-f, true-not}
 use Rattle.sets.proofs.Search.{any-false}
-use Rattle.sets.proofs.Member.{within-boards, member-empty}
+use Rattle.sets.proofs.Member.{within-boards}
 use Rattle.sets.proofs.Tolerated.{tolerated-listed}
 use Rattle.plan.specs.declared.plan.Plan.{Plan}
 use Rattle.plan.specs.declared.schedule.Round.{Round}
-use Rattle.plan.specs.Schedule.{listed, rounds, steps, stepRound}
+use Rattle.plan.specs.Schedule.{listed, steps, stepRound}
 use Rattle.plan.specs.Calls.{judged}
 use Rattle.plan.specs.Cover.{strays}
-use Rattle.plan.proofs.Outcomes.{Admitted}
-use Rattle.tree.specs.Labels.{Label, occurs, last}
+use Rattle.tree.specs.Labels.{Label, occurs}
 use Rattle.theory.specs.Tree as T
 use Rattle.protocol.specs.Nodes.{value, read, nodes, inner, sent, due, frame}
 use Rattle.protocol.specs.Detection.{Scan, detectAll1}
-use Rattle.protocol.specs.Rounds.{Board, gather}
 use Rattle.protocol.specs.Calls.{frameOf}
-use Rattle.protocol.specs.Session.{Adversary, Setting, hears, session, boardAt, at}
+use Rattle.protocol.specs.Session.{Adversary, Setting, hears, at}
 use Rattle.protocol.specs.Lists.{keeper, Sound}
 use Rattle.protocol.specs.declared.records.Record.{Record}
 use Rattle.plan.specs.Calls.{andThen}
 use Rattle.protocol.specs.Calls.{dealing}
 use borrow.Author.Tests.{lt-leb}
-use Rattle.protocol.proofs.Nodes.{sent-same, sent-has, sent-inv, inner-inv, node-label, node-length, node-has}
+use Rattle.protocol.proofs.Nodes.{sent-same, sent-has, inner-inv, node-label}
 use Rattle.protocol.proofs.Fill.{IsLabel}
 use Rattle.protocol.proofs.Local.{detect-outside}
 use Rattle.protocol.proofs.Judgement.{plan-facts, Good, good-dealer}
 use Rattle.protocol.proofs.Bounds.{read-small}
 use Rattle.protocol.proofs.Reached.{other-level}
 use Rattle.protocol.proofs.Instance.{inst, inst-good}
-use Rattle.protocol.proofs.Gathering.{listOf, scan-cell, scan-sound}
-use Rattle.protocol.proofs.Hearing.{filled, filled-outside, filled-length, delivered, silenced, copied}
+use Rattle.protocol.proofs.Gathering.{listOf}
+use Rattle.protocol.proofs.Hearing.{filled, filled-outside, delivered, copied}
 use Rattle.protocol.proofs.Synchronous.{told, keeper-facts, Standing, standing, canon}
 
 -- A tolerated set of an accepted plan names boards below n only.
@@ -105,12 +103,14 @@ module _ (s : Setting) (a : Adversary) (sound : Sound s) where
   unfolding due
   is-due q i e k α lq li ne nd ek m out =
       let w : List·Memᴰ α (sent plan q i k) =
-      sent-has plan i q k α (λ z. let y : ⊥ = omega arith in y) (subst (λ x. List·Memᴰ α (inner plan i x)) (let z : suc e ≡ k .0 - 1 = omega arith in z) m) out in
-      (w, and-true (ltb q (plan .n) && ltb i (plan .n)) (not (eqb q i) && (not (eqb i (plan .dealer)) && ltb 0 (length (sent plan q i k))))
-      (and-true (ltb q (plan .n)) (ltb i (plan .n)) (lt-ltb q (plan .n) lq) (lt-ltb i (plan .n) li))
-      (and-true (not (eqb q i)) (not (eqb i (plan .dealer)) && ltb 0 (length (sent plan q i k))) (true-not (eqb q i) (ne-eqb q i ne))
-      (and-true (not (eqb i (plan .dealer))) (ltb 0 (length (sent plan q i k))) (true-not (eqb i (plan .dealer)) (ne-eqb i (plan .dealer) nd))
-      (lt-ltb 0 (length (sent plan q i k)) (some-entry (sent plan q i k) w)))))
+      sent-has plan i q k α (λ z. let y : ⊥ = omega arith in y) (subst (λ x. List·Memᴰ α (inner plan i x)) (let z : suc e ≡ k .0 - 1 = omega arith in z) m) out in (
+        w,
+        and-true (ltb q (plan .n) && ltb i (plan .n)) (not (eqb q i) && (not (eqb i (plan .dealer)) && ltb 0 (length (sent plan q i k))))
+            (and-true (ltb q (plan .n)) (ltb i (plan .n)) (lt-ltb q (plan .n) lq) (lt-ltb i (plan .n) li))
+            (and-true (not (eqb q i)) (not (eqb i (plan .dealer)) && ltb 0 (length (sent plan q i k))) (true-not (eqb q i) (ne-eqb q i ne))
+            (and-true (not (eqb i (plan .dealer))) (ltb 0 (length (sent plan q i k))) (true-not (eqb i (plan .dealer)) (ne-eqb i (plan .dealer) nd))
+            (lt-ltb 0 (length (sent plan q i k)) (some-entry (sent plan q i k) w)))),
+      )
     where
       some-entry : (αs : List Label) → List·Memᴰ α αs → 0 < length αs
       some-entry [] w = absurd (List·Memᴰ·not-nil w)

@@ -319,6 +319,17 @@ module _ (r : Record) (g : Good r) (undecided : r .decided ≡ false) (msg : ℕ
         ∙ missing-default marked L₀ low (g .below) q α m lq (P₀ .n) (heardCells r msg cells (P₀ .n)) (omega arith) lq
         (rw (heard-length r g undecided msg cells room (P₀ .n)) room) d (marks-at r msg (P₀ .n) q lq ∙ a)
 
+    -- A listed board counts as silent.
+    pub silenced : q ≢ r .board → due P₀ q (r .board) (r .round) ≡ true → member q (r .detected) ≡ true → read P₀ filled (q ∷ α) ≡ default P₀
+    unfolding read content counted
+    silenced ne d on =
+        let αs = sent P₀ q (r .board) (r .round) in
+        cases (accepts r msg q)
+        (λ a. let c : content r msg q ≡ [] = rw on (ap (λ b. cond b (Option·getD (msg q) []) []) (and-false (eqb (length (Option·getD (msg q) [])) (length αs)))) in
+        ap (value P₀) (taken-cell ne a ∙ ap (λ vs. cellAt (P₀ .n) (fill P₀ q αs vs (heardCells r msg cells q)) (q ∷ α)) c
+        ∙ stored-none P₀ L₀ (r .board) (r .round) low q (heardCells r msg cells q) α lq heard-room m) ∙ value-default P₀)
+        (λ a. ap (value P₀) (missed-cell ne d a) ∙ value-default P₀)
+
     -- The frame of a board that is not listed, of the right length, is what is read.
     pub delivered : (f : Label → ℕ) → q ≢ r .board → due P₀ q (r .board) (r .round) ≡ true → member q (r .detected) ≡ false
         → msg q ≡ some (map f (sent P₀ q (r .board) (r .round))) → f α < P₀ .span → read P₀ filled (q ∷ α) ≡ f α
@@ -330,17 +341,6 @@ module _ (r : Record) (g : Good r) (undecided : r .decided ≡ false) (msg : ℕ
         ap (value P₀) (taken-cell ne a ∙ ap (λ vs. cellAt (P₀ .n) (fill P₀ q αs vs (heardCells r msg cells q)) (q ∷ α)) c
         ∙ stored-map P₀ L₀ (r .board) (r .round) low q f (heardCells r msg cells q) α lq heard-room m)
         ∙ ap (value P₀) (value-same P₀ (f α) small) ∙ value-same P₀ (f α) small
-
-    -- A listed board counts as silent.
-    pub silenced : q ≢ r .board → due P₀ q (r .board) (r .round) ≡ true → member q (r .detected) ≡ true → read P₀ filled (q ∷ α) ≡ default P₀
-    unfolding read content counted
-    silenced ne d on =
-        let αs = sent P₀ q (r .board) (r .round) in
-        cases (accepts r msg q)
-        (λ a. let c : content r msg q ≡ [] = rw on (ap (λ b. cond b (Option·getD (msg q) []) []) (and-false (eqb (length (Option·getD (msg q) [])) (length αs)))) in
-        ap (value P₀) (taken-cell ne a ∙ ap (λ vs. cellAt (P₀ .n) (fill P₀ q αs vs (heardCells r msg cells q)) (q ∷ α)) c
-        ∙ stored-none P₀ L₀ (r .board) (r .round) low q (heardCells r msg cells q) α lq heard-room m) ∙ value-default P₀)
-        (λ a. ap (value P₀) (missed-cell ne d a) ∙ value-default P₀)
 
   -- A board's own child has its own cell.
   pub copied : (α : Label) (b : ℕ) → List·Memᴰ α (sent P₀ (r .board) (r .board) (r .round)) → IsLabel P₀ L₀ b α → (List·Memᴰ α (nodes P₀ (r .board) (r .round .0)) → ⊥)

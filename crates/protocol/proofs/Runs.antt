@@ -1,41 +1,38 @@
 -- A run of the session: lists grow, cells of closed rounds stay, listed boards are masked, and what the rules leave.
 -- Assumes nothing.
-use Prim.Native.Nat.{ℕ, zero, suc, _+_, _-_, _*_, _≤_, _<_}
+use Prim.Native.Nat.{ℕ, zero, suc, _+_, _-_, _≤_, _<_}
 use mathlib.Core.Path.{_≡_, refl, sym, _∙_, ap, subst}
-use mathlib.Core.Logic.{_≢_, _⊎_, inl, inr, ⊎-elim}
-use mathlib.Core.Bool.{Bool, true, false, not, _&&_, _||_, cond}
-use mathlib.Core.List.{List, [], _∷_, List·Memᴰ}
-use mathlib.Core.Option.{Option, some, none, Option·getD}
+use mathlib.Core.Logic.{_≢_, ⊎-elim}
+use mathlib.Core.Bool.{true, false, not, _&&_, _||_}
+use mathlib.Core.List.{_∷_, List·Memᴰ}
+use mathlib.Core.Option.{some}
 use native.Mathlib.Omega.{arith}
-use lib.Dec.{eqb, ltb}
+use lib.Dec.{ltb}
 use lib.ListN.{length}
-use borrow.Author.Tests.{eqb-true, eqb-false, ltb-true, ltb-false}
+use borrow.Author.Tests.{ltb-true, ltb-false}
 use Rattle.sets.specs.Sets.{member}
 use Rattle.sets.specs.Only.{same}
-use Rattle.sets.proofs.Tests.{cases, clash, is-false, and-l, and-r, and-true, not-t, true-not, or-true, or-left, or-right}
+use Rattle.sets.proofs.Tests.{cases, clash, is-false, and-l, and-r, and-true, not-t, true-not}
 use Rattle.plan.specs.declared.plan.Plan.{Plan}
-use Rattle.plan.specs.declared.schedule.Run.{Run}
 use Rattle.plan.specs.declared.schedule.Round.{Round}
-use Rattle.plan.specs.Schedule.{rounds, runs, steps, step, stepRun, stepRound}
-use Rattle.plan.proofs.Steps.{Has, run-of-step, round-of-step}
+use Rattle.plan.specs.Schedule.{rounds, steps, step, stepRun, stepRound}
+use Rattle.plan.proofs.Steps.{Has, round-of-step}
 use Rattle.tree.specs.Labels.{Label, occurs, last}
 use Rattle.theory.specs.Tree as T
-use Rattle.theory.specs.Tree.{Node, root, child}
-use Rattle.protocol.specs.Nodes.{default, read, internal, nodes, inner}
-use Rattle.protocol.specs.Detection.{Scan, byCell, byResolving, resolve, resolveRoot, detectLevels}
+use Rattle.protocol.specs.Nodes.{default, read, inner}
+use Rattle.protocol.specs.Detection.{Scan, byCell, byResolving, resolve, detectLevels}
 use Rattle.protocol.specs.Rounds.{Board, gather, nextRound, convert}
 use Rattle.protocol.specs.Session.{Adversary, Setting, at}
 use Rattle.protocol.specs.Lists.{keeper, Sound}
-use Rattle.protocol.proofs.Nodes.{inner-inv, inner-has, node-label, node-has, no-node}
+use Rattle.protocol.proofs.Nodes.{node-label, node-has}
 use Rattle.protocol.proofs.Fill.{IsLabel}
-use Rattle.protocol.proofs.Judgement.{plan-facts}
-use Rattle.protocol.proofs.Instance.{inst, tol, tol-mono, node-mem, node-level, resolve-inst}
-use Rattle.protocol.proofs.Gathering.{listOf, scan-grow, scan-cell, scan-spared, SparedBy}
-use Rattle.protocol.proofs.Converting.{levels-grow, levels-spared}
+use Rattle.protocol.proofs.Instance.{inst, tol, tol-mono, resolve-inst}
+use Rattle.protocol.proofs.Gathering.{scan-grow, scan-cell, scan-spared, SparedBy}
+use Rattle.protocol.proofs.Converting.{levels-spared, convert-grow}
 use Rattle.protocol.proofs.Hearing.{hear, silenced}
 use Rattle.protocol.proofs.Synchronous.{told, keeper-facts, standing, position, number, next-position}
-use Rattle.protocol.proofs.Delivery.{is-due, st, rec, rec-good, stored-cells, scanned, scanned-other}
-use Rattle.protocol.proofs.Soundness.{open-round, Inv, inv, scan-is, within-run, run-ends, room, dealer-below, lists-within}
+use Rattle.protocol.proofs.Delivery.{is-due, st, rec, rec-good, scanned, scanned-other}
+use Rattle.protocol.proofs.Soundness.{open-round, inv, scan-is, within-run, run-ends, room, dealer-below, lists-within}
 
 module _ (s : Setting) (a : Adversary) (sound : Sound s) where
   abbrev plan : Plan
@@ -74,8 +71,8 @@ module _ (s : Setting) (a : Adversary) (sound : Sound s) where
     step-more r t =
         cases (ltb (open-round s a sound j) R)
         (λ e. subst (λ x. member r x ≡ true) (sym (next-board (ltb-true (open-round s a sound j) R e) .0)) t)
-        (λ e. subst (λ x. member r x ≡ true) (sym (ended-board (ltb-false (open-round s a sound j) R e)))
-        (levels-grow plan i (scan j i .cells) (R - 1) (scan j i .detected) r t))
+        (λ e. subst (λ (b : Board). member r (b .rec .detected) ≡ true)
+        (sym (run-ends s a sound j l (inv s a sound j l) i ki (ltb-false (open-round s a sound j) R e))) (convert-grow _ (scan j i) r t))
 
     -- Cells of other levels stay in a step.
     pub scan-other : (b : ℕ) (γ : Label) → IsLabel plan (dealer-below s a sound j l (inv s a sound j l)) b γ → b ≢ open-round s a sound j
@@ -183,21 +180,24 @@ module _ (s : Setting) (a : Adversary) (sound : Sound s) where
         let u′ : member (last β) (scan j i .detected) ≡ false = is-false (member (last β) (scan j i .detected)) (λ t. clash (more (last β) t) u) in
         let (v, lv, t) = subst (λ x. SparedBy plan ld i (open-round s a sound j - 1) x β) (sym (is-scanned j i ki lj))
         (scan-spared plan ld i (open-round s a sound j - 1) (inner plan i (open-round s a sound j - 1)) _ β (λ _ y. y) m′ (room s a sound j lj I i ki)
-        (subst (λ x. member (last β) (x .detected) ≡ false) (is-scanned j i ki lj) u′)) in
-        (v, lv, tol-mono plan
-        (λ c. not (member c (scan jE i .detected)) && T.others β (λ q. some (read plan (scan jE i .cells) (q ∷ β))) v c)
-        (λ c. not (member c (scan j i .detected)) && T.others β (λ q. some (read plan (scan j i .cells) (q ∷ β))) v c)
-        (λ c lc z.
-        let out = not-t (member c (scan jE i .detected)) (and-l (not (member c (scan jE i .detected))) (T.others β (λ q. some (read plan (scan jE i .cells) (q ∷ β))) v c) z) in
-        let oth = and-r (not (member c (scan jE i .detected))) (T.others β (λ q. some (read plan (scan jE i .cells) (q ∷ β))) v c) z in
-        let b-out = not-t (occurs c β) (and-l (not (occurs c β)) (not (same (some (read plan (scan jE i .cells) (c ∷ β))) (some v))) oth) in
-        let label = node-label plan i (suc (suc e)) (c ∷ β) (node-has plan i e β c m lc b-out) in
-        let cell : read plan (scan jE i .cells) (c ∷ β) ≡ read plan (scan j i .cells) (c ∷ β) =
-        ap (λ x. read plan (scan x i .cells) (c ∷ β)) (sym back) ∙ run-keeps i ki (R - suc (suc e)) j (omega arith) (omega arith) ld (suc (suc e)) (c ∷ β) label (omega arith) in
-        and-true (not (member c (scan j i .detected))) (T.others β (λ q. some (read plan (scan j i .cells) (q ∷ β))) v c)
-        (true-not (member c (scan j i .detected)) (is-false (member c (scan j i .detected)) (λ y. clash (more c y) out)))
-        (subst (λ x. (not (occurs c β) && not (same (some x) (some v))) ≡ true) cell oth))
-        t)
+        (subst (λ x. member (last β) (x .detected) ≡ false) (is-scanned j i ki lj) u′)) in (
+          v,
+          lv,
+          tol-mono plan
+              (λ c. not (member c (scan jE i .detected)) && T.others β (λ q. some (read plan (scan jE i .cells) (q ∷ β))) v c)
+              (λ c. not (member c (scan j i .detected)) && T.others β (λ q. some (read plan (scan j i .cells) (q ∷ β))) v c)
+              (λ c lc z.
+              let out = not-t (member c (scan jE i .detected)) (and-l (not (member c (scan jE i .detected))) (T.others β (λ q. some (read plan (scan jE i .cells) (q ∷ β))) v c) z) in
+              let oth = and-r (not (member c (scan jE i .detected))) (T.others β (λ q. some (read plan (scan jE i .cells) (q ∷ β))) v c) z in
+              let b-out = not-t (occurs c β) (and-l (not (occurs c β)) (not (same (some (read plan (scan jE i .cells) (c ∷ β))) (some v))) oth) in
+              let label = node-label plan i (suc (suc e)) (c ∷ β) (node-has plan i e β c m lc b-out) in
+              let cell : read plan (scan jE i .cells) (c ∷ β) ≡ read plan (scan j i .cells) (c ∷ β) =
+              ap (λ x. read plan (scan x i .cells) (c ∷ β)) (sym back) ∙ run-keeps i ki (R - suc (suc e)) j (omega arith) (omega arith) ld (suc (suc e)) (c ∷ β) label (omega arith) in
+              and-true (not (member c (scan j i .detected))) (T.others β (λ q. some (read plan (scan j i .cells) (q ∷ β))) v c)
+              (true-not (member c (scan j i .detected)) (is-false (member c (scan j i .detected)) (λ y. clash (more c y) out)))
+              (subst (λ x. (not (occurs c β) && not (same (some x) (some v))) ≡ true) cell oth))
+              t,
+        )
 
     -- And what rule FD2 leaves of one.
     pub spared-fd2 : (e k : ℕ) (β : Label) → List·Memᴰ β (inner plan i (suc e)) → suc (suc e) + k ≡ R → length β ≡ suc e → member (last β) (at s a (suc jE) i .rec .detected) ≡ false
@@ -208,10 +208,13 @@ module _ (s : Setting) (a : Adversary) (sound : Sound s) where
         let cells = scan jE i .cells in
         let (v, lv, t) = levels-spared plan i cells (R - 1) (scan jE i .detected) (suc e) β (omega arith) (omega arith) m
         (subst (λ x. member (last β) x ≡ false) (ended-board jE i ki lE (omega arith)) u) in
-        let left : R - suc (length β) ≡ k = omega arith in
-        (v, lv, tol-mono plan
-        (λ c. T.others β (λ q. T.resolve (inst plan) i (read plan cells) k (q ∷ β)) v c || member c (scan jE i .detected))
-        (λ c. T.others β (byResolving plan i cells β) v c || member c (scan jE i .detected))
-        (λ c _ z. subst (λ o. ((not (occurs c β) && not (same o (some v))) || member c (scan jE i .detected)) ≡ true)
-        (sym (ap (λ x. resolve plan i cells x (c ∷ β)) left ∙ resolve-inst plan i cells k (c ∷ β))) z)
-        t)
+        let left : R - suc (length β) ≡ k = omega arith in (
+          v,
+          lv,
+          tol-mono plan
+              (λ c. T.others β (λ q. T.resolve (inst plan) i (read plan cells) k (q ∷ β)) v c || member c (scan jE i .detected))
+              (λ c. T.others β (byResolving plan i cells β) v c || member c (scan jE i .detected))
+              (λ c _ z. subst (λ o. ((not (occurs c β) && not (same o (some v))) || member c (scan jE i .detected)) ≡ true)
+              (sym (ap (λ x. resolve plan i cells x (c ∷ β)) left ∙ resolve-inst plan i cells k (c ∷ β))) z)
+              t,
+        )

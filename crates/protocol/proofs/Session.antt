@@ -1,22 +1,22 @@
 -- Agreement of the synchronous session, for every accepted plan, tolerated F and adversary.
 -- Assumes nothing.
 use Prim.Native.Nat.{ℕ, zero, suc, _+_, _-_, _*_, _≤_, _<_, _^_}
-use mathlib.Core.Path.{_≡_, refl, sym, _∙_, ap, subst}
+use mathlib.Core.Path.{_≡_, sym, _∙_, ap, subst}
 use mathlib.Core.Logic.{_≢_}
-use mathlib.Core.Bool.{Bool, true, false, not, _&&_, cond, and-assoc}
+use mathlib.Core.Bool.{true, false, not, _&&_, and-assoc}
 use native.Mathlib.Omega.{arith}
 use native.Mathlib.Nat.{suc-mul}
 use lib.Dec.{eqb, ltb}
 use lib.ListN.{getD}
 use borrow.Author.Tests.{eq-eqb, lt-ltb}
-use Rattle.sets.specs.Search.{any, count}
-use Rattle.sets.specs.Sets.{member, setOf, size, within}
+use Rattle.sets.specs.Search.{count}
+use Rattle.sets.specs.Sets.{member, setOf}
 use Rattle.sets.proofs.Tests.{cases, and-true}
 use Rattle.sets.proofs.Search.{any-same}
 use Rattle.sets.proofs.Count.{count-same}
 use Rattle.sets.proofs.Member.{member-within, member-setOf, setOf-below, size-count}
 use Rattle.plan.specs.declared.plan.Plan.{Plan}
-use Rattle.plan.specs.Schedule.{listed, height, isCut, rounds, runs, steps, step, stepRun}
+use Rattle.plan.specs.Schedule.{isCut, rounds, runs, steps, stepRun}
 use Rattle.plan.proofs.Levels.{rounds-pos, runs-pos, rounds-full, rounds-cut}
 use Rattle.plan.proofs.Height.{height-most}
 use Rattle.plan.proofs.Steps.{runs-enough, cut-four}
@@ -29,15 +29,14 @@ use Rattle.protocol.specs.Rounds.{Board, rootOnly, convert, close}
 use Rattle.protocol.specs.Session.{Adversary, Setting, at}
 use Rattle.protocol.specs.Lists.{keeper, Sound}
 use Rattle.protocol.specs.Claims.{ended, rootAfter, onEveryList, SessionAgreement, Synchronous}
-use Rattle.protocol.proofs.Judgement.{Good, plan-facts}
+use Rattle.protocol.proofs.Judgement.{plan-facts}
 use Rattle.protocol.proofs.Instance.{inst, tol}
 use Rattle.protocol.proofs.Reached.{close-good, close-plan}
 use Rattle.protocol.proofs.Gathering.{listOf}
-use Rattle.protocol.proofs.Synchronous.{keeper-facts, standing, ready, ready-open, after-step, begun-shape, at-start}
+use Rattle.protocol.proofs.Synchronous.{standing, ready, ready-open, after-step}
 use Rattle.protocol.proofs.Delivery.{good, healthy, healthy-keeper, st}
 use Rattle.protocol.proofs.Soundness.{open-round, inv, run-ends, lists-within}
-use Rattle.protocol.proofs.Runs.{scan}
-use Rattle.protocol.proofs.Agreement.{last-step, in-time, at-end, number, run-number, cells, lists, mids, roots, resolved, left-root, session}
+use Rattle.protocol.proofs.Agreement.{last-step, in-time, at-end, number, run-number, cells, lists, roots, resolved, left-root, session}
 
 module _ (s : Setting) (a : Adversary) (sound : Sound s) where
   abbrev plan : Plan
@@ -81,9 +80,10 @@ module _ (s : Setting) (a : Adversary) (sound : Sound s) where
       let l = in-time s a sound last-run in-runs in
       let e = run-ends s a sound j l (inv s a sound j l) i ki (let z : rounds plan .0 ≤ open-round s a sound j = omega (arith, at-end s a sound last-run in-runs) in z) in
       let last : eqb (stepRun plan (suc j) .0) (runs plan .0) ≡ true =
-      eq-eqb (stepRun plan (suc j) .0) (runs plan .0) (run-number s a sound last-run in-runs ∙ (let z : suc last-run ≡ runs plan .0 = omega (arith, runs-pos plan) in z)) in
-      (ap (λ x. at s a x i .rec .decided) (sym last-of-all) ∙ ap (λ (b : Board). b .rec .decided) e ∙ last,
-      ap (λ x. at s a x i .rec .decision) (sym last-of-all) ∙ ap (λ (b : Board). b .rec .decision) e ∙ rw last (resolved s a sound last-run i))
+      eq-eqb (stepRun plan (suc j) .0) (runs plan .0) (run-number s a sound last-run in-runs ∙ (let z : suc last-run ≡ runs plan .0 = omega (arith, runs-pos plan) in z)) in (
+        ap (λ x. at s a x i .rec .decided) (sym last-of-all) ∙ ap (λ (b : Board). b .rec .decided) e ∙ last,
+        ap (λ x. at s a x i .rec .decision) (sym last-of-all) ∙ ap (λ (b : Board). b .rec .decision) e ∙ rw last (resolved s a sound last-run i),
+      )
 
   -- A tolerated set with the dealer has fewer boards than a tree that is not cut has levels.
   small-sets : isCut plan ≡ false → (b : T.Boards) → tol plan b ≡ true → b (plan .dealer) ≡ true → count b (plan .n) ≤ rounds plan .0 - 1
@@ -134,6 +134,7 @@ module _ (s : Setting) (a : Adversary) (sound : Sound s) where
           ∙ persistence (good s a sound) (session s a sound) t u v (omega arith) (omega arith)
           (λ k H. let kk = healthy-keeper s a sound k H in sym (root-after t (omega arith) k kk) ∙ ap (λ x. rootAfter s a x k) (sym et) ∙ h k kk)
           i (healthy s a sound i ki)
+
       bounded : isCut plan ≡ true → (t t′ : ℕ) → t′ ≡ suc t → t′ ≤ runs plan .0 → (i k : ℕ) → keeper s i ≡ true → keeper s k ≡ true
           → rootAfter s a t′ i ≢ rootAfter s a t′ k → t′ * (plan .depth - 3) + 1 ≤ count (onEveryList s a t′) (plan .n)
       bounded e t t′ et high i k ki kk ne =

@@ -1,46 +1,46 @@
 -- Lists hold faulty boards only, and healthy boards have one another's cells, after every step of the session.
 -- Assumes nothing.
-use Prim.Native.Nat.{ℕ, zero, suc, _+_, _-_, _≤_, _<_, _^_}
+use Prim.Native.Nat.{ℕ, zero, suc, _+_, _-_, _≤_, _<_}
 use mathlib.Core.Path.{_≡_, refl, sym, _∙_, ap, subst}
-use mathlib.Core.Logic.{_≢_, _⊎_, inl, inr, ⊎-elim}
-use mathlib.Core.Bool.{Bool, true, false, not, _&&_, cond}
-use mathlib.Core.List.{List, [], _∷_, map, List·Memᴰ, List·Memᴰ·head, List·Memᴰ·not-nil}
-use mathlib.Core.Option.{Option, some, none, Option·getD}
+use mathlib.Core.Logic.{_≢_, ⊎-elim}
+use mathlib.Core.Bool.{true, false}
+use mathlib.Core.List.{List, [], _∷_, map, List·Memᴰ, List·Memᴰ·head}
+use mathlib.Core.Option.{some, Option·getD}
 use native.Mathlib.Omega.{arith}
-use lib.Dec.{eqb, leb, ltb}
+use lib.Dec.{eqb, ltb}
 use lib.ListN.{length}
 use borrow.Author.Tests.{eqb-true, eqb-false, eq-eqb, ne-eqb, ltb-true, ltb-false, lt-ltb}
 use Rattle.sets.specs.Sets.{member}
-use Rattle.sets.proofs.Tests.{cases, clash, is-false, is-true, and-true, true-not}
+use Rattle.sets.proofs.Tests.{cases, clash, is-false}
 use Rattle.sets.proofs.Member.{member-empty}
 use Rattle.plan.specs.declared.plan.Plan.{Plan}
 use Rattle.plan.specs.declared.schedule.Round.{Round}
-use Rattle.plan.specs.Schedule.{rounds, runs, steps, stepRun, stepRound}
+use Rattle.plan.specs.Schedule.{rounds, steps, stepRun, stepRound}
 use Rattle.tree.specs.Labels.{Label, occurs, last}
 use Rattle.tree.specs.Places.{cellCount, place, levelStart, levelSize, rank}
 use Rattle.tree.specs.Cells.{cellAt}
 use Rattle.tree.proofs.Labels.{label-dealer, root-has}
 use Rattle.theory.specs.Tree as T
 use Rattle.protocol.specs.declared.records.Record.{Record}
-use Rattle.protocol.specs.Nodes.{default, value, read, internal, nodes, inner, sent, due}
+use Rattle.protocol.specs.Nodes.{default, read, internal, nodes, inner, sent, due}
 use Rattle.theory.specs.Runs.{Flow}
 use Rattle.theory.specs.Tree.{root, child}
 use Rattle.theory.proofs.Uniform.{uniform, healthy-node}
 use Rattle.protocol.proofs.Converting.{Minds, levels-sound}
 use Rattle.protocol.specs.Detection.{Scan, byResolving, resolveRoot, detectLevels}
-use Rattle.protocol.specs.Rounds.{rootOnly, nextRound, convert, Board, gather, copyOwn}
+use Rattle.protocol.specs.Rounds.{rootOnly, nextRound, convert, Board, gather}
 use Rattle.protocol.specs.Session.{Adversary, Setting, at}
 use Rattle.protocol.specs.Calls.{freshRecord}
 use Rattle.plan.proofs.Levels.{rounds-pos}
 use Rattle.protocol.specs.Lists.{keeper, Sound}
 use Rattle.protocol.proofs.Nodes.{inner-same, inner-inv, inner-has, node-label, node-length, node-root, node-inv, node-has, no-node}
 use Rattle.protocol.proofs.Fill.{IsLabel}
-use Rattle.protocol.proofs.Judgement.{plan-facts, Good, good-dealer}
+use Rattle.protocol.proofs.Judgement.{plan-facts}
 use Rattle.protocol.proofs.Bounds.{read-small, root-small}
 use Rattle.protocol.proofs.Instance.{inst, mem-node, node-mem, node-level, resolve-inst}
 use Rattle.protocol.proofs.Gathering.{listOf, scan-cell, scan-sound}
 use Rattle.protocol.proofs.Hearing.{hear, stored, filled, filled-length, delivered, value-same}
-use Rattle.protocol.proofs.Synchronous.{at-start, begun-shape, told, keeper-facts, standing, standing-start, position, number, heard-all, ready, after-step, close-next, close-last, next-run, more-runs}
+use Rattle.protocol.proofs.Synchronous.{at-start, begun-shape, told, keeper-facts, standing, position, number, heard-all, ready, after-step, close-next, close-last, next-run, more-runs}
 use Rattle.protocol.proofs.Delivery.{good, healthy, healthy-keeper, told-word, st, rec, rec-good, stored-cells, scanned, stored-healthy, scanned-other}
 
 module _ (s : Setting) (a : Adversary) (sound : Sound s) where
@@ -268,13 +268,19 @@ module _ (s : Setting) (a : Adversary) (sound : Sound s) where
               let (w, inn) = inner-inv plan i (suc e) α m in
               let size = node-length plan i (suc e) α w in
               let left = rounds plan .0 - suc (length α) in
-              let N : T.Node (inst plan) i (suc left) α = mem-node plan i (suc e) (suc left) α w (omega arith) in
-              (suc left, N, λ out.
-              let (v, lv, u) = held i e α ki m high out in
-              (v, lv, λ c C a-out. unfold byResolving in
-              resolve-inst plan i (scan-of i .cells) left (c ∷ α)
-              ∙ healthy-node (good s a sound) flow C i (healthy s a sound i ki) (child N inn (C .below) a-out)
-              ∙ ap some (u c (healthy-keeper s a sound c C))))
+              let N : T.Node (inst plan) i (suc left) α = mem-node plan i (suc e) (suc left) α w (omega arith) in (
+                suc left,
+                N,
+                λ out.
+                    let (v, lv, u) = held i e α ki m high out in (
+                      v,
+                      lv,
+                      λ c C a-out. unfold byResolving in
+                          resolve-inst plan i (scan-of i .cells) left (c ∷ α)
+                          ∙ healthy-node (good s a sound) flow C i (healthy s a sound i ki) (child N inn (C .below) a-out)
+                          ∙ ap some (u c (healthy-keeper s a sound c C)),
+                    ),
+              )
 
       -- A healthy dealer's value is the resolved root.
       pub convert-root : member (plan .dealer) F ≡ false → (i : ℕ) → keeper s i ≡ true → resolveRoot plan i (scan-of i .cells) ≡ s .word
@@ -363,6 +369,7 @@ module _ (s : Setting) (a : Adversary) (sound : Sound s) where
     where
       fresh : (i : ℕ) → keeper s i ≡ true → at s a 0 i .rec ≡ freshRecord plan i
       fresh i ki = ap (λ (b : Board). b .rec) (at-start s a i (keeper-facts s a sound i ki .0) ∙ begun-shape s a sound i ki)
+
       one : (i : ℕ) → keeper s i ≡ true → open-round 0 ≡ 1
       one i ki =
           sym (ap (λ (r : Record). r .round .0) (standing s a sound 0 i ki l .shape)) ∙ ap (λ (r : Record). r .round .0) (fresh i ki) ∙ unfold freshRecord in refl
