@@ -21,14 +21,14 @@ use Rattle.tree.proofs.Labels.{root-has}
 use Rattle.theory.specs.Tree as T
 use Rattle.theory.specs.Tree.{Node}
 use Rattle.theory.specs.Runs as U
-use Rattle.protocol.specs.Nodes.{default, read, internal, nodes, inner}
+use Rattle.protocol.specs.Nodes.{default, read, internal, inner}
 use Rattle.protocol.specs.Detection.{resolveRoot}
 use Rattle.protocol.specs.Rounds.{Board, rootOnly}
 use Rattle.protocol.specs.Session.{Adversary, Setting, at}
 use Rattle.protocol.specs.Lists.{keeper, Sound}
-use Rattle.protocol.proofs.Nodes.{inner-has, no-node}
+use Rattle.protocol.proofs.Nodes.{inner-has}
 use Rattle.protocol.proofs.Bounds.{root-small}
-use Rattle.protocol.proofs.Instance.{inst, node-mem, node-level, resolve-inst}
+use Rattle.protocol.proofs.Instance.{inst, node-mem, node-level, resolve-inst, node-size}
 use Rattle.protocol.proofs.Gathering.{listOf}
 use Rattle.protocol.proofs.Converting.{convert-cells}
 use Rattle.protocol.proofs.Delivery.{healthy-keeper}
@@ -94,14 +94,11 @@ module _ (s : Setting) (a : Adversary) (sound : Sound s) where
       let two = later-rounds plan (sound .accepted) (omega arith) in
       omega (arith, suc-mul (suc t) (R - 1))
 
-  positive : (x : ℕ) → (x ≡ 0 → ⊥) → x ≡ suc (x - 1)
-  positive x h = let ne : x ≢ 0 = h in omega arith
-
   -- A node of the theory that is internal, as the definitions have it.
   inner-node : {i k : ℕ} {α : Label} → Node (inst plan) i (suc k) α → internal plan i α ≡ true
       → List·Memᴰ α (inner plan i (suc (length α - 1))) × (suc (suc (length α - 1)) + k ≡ R) × (length α ≡ suc (length α - 1))
   inner-node {i} {k} {α} N inn =
-      let size = positive (length α) (λ z. no-node plan i α (subst (λ x. List·Memᴰ α (nodes plan i x)) z (node-mem plan N))) in
+      let size = node-size plan N in
       let level = node-level plan N in
       (subst (λ x. List·Memᴰ α (inner plan i x)) size (inner-has plan i (length α) α (node-mem plan N) inn), omega arith, size)
 

@@ -109,6 +109,11 @@ node-mem p {i} (child {c = c} {α = α} N e l a) =
     step-up p i c α zero m e l a = absurd (no-node p i α m)
     step-up p i c α (suc j) m e l a = node-has p i j α c (inner-has p i (suc j) α m e) l a
 
+-- Its label is not empty.
+pub node-size : (p : Plan) {i k : ℕ} {α : Label} → Node (inst p) i k α → length α ≡ suc (length α - 1)
+node-size p root = omega arith
+node-size p (child N e l a) = omega arith
+
 pub mem-node : (p : Plan) (i j k : ℕ) (α : Label) → List·Memᴰ α (nodes p i j) → j + k ≡ rounds p .0 → Node (inst p) i k α
 mem-node p i zero k α m e = absurd (no-node p i α m)
 mem-node p i (suc zero) k α m e =

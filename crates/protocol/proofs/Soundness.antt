@@ -22,7 +22,7 @@ use Rattle.tree.specs.Cells.{cellAt}
 use Rattle.tree.proofs.Labels.{label-dealer, root-has}
 use Rattle.theory.specs.Tree as T
 use Rattle.protocol.specs.declared.records.Record.{Record}
-use Rattle.protocol.specs.Nodes.{default, read, internal, nodes, inner, sent, due}
+use Rattle.protocol.specs.Nodes.{default, read, internal, inner, sent, due}
 use Rattle.theory.specs.Runs.{Flow}
 use Rattle.theory.specs.Tree.{root, child}
 use Rattle.theory.proofs.Uniform.{uniform, healthy-node}
@@ -37,7 +37,7 @@ use Rattle.protocol.proofs.Nodes.{inner-same, inner-inv, inner-has, nod
 use Rattle.protocol.proofs.Fill.{IsLabel}
 use Rattle.protocol.proofs.Judgement.{plan-facts}
 use Rattle.protocol.proofs.Bounds.{read-small, root-small}
-use Rattle.protocol.proofs.Instance.{inst, mem-node, node-mem, node-level, resolve-inst}
+use Rattle.protocol.proofs.Instance.{inst, mem-node, node-mem, node-level, node-size, resolve-inst}
 use Rattle.protocol.proofs.Gathering.{listOf, scan-cell, scan-sound}
 use Rattle.protocol.proofs.Hearing.{hear, stored, filled, filled-length, delivered, value-same}
 use Rattle.protocol.proofs.Synchronous.{at-start, begun-shape, told, keeper-facts, standing, position, number, heard-all, ready, after-step, close-next, close-last, next-run, more-runs}
@@ -223,12 +223,9 @@ module _ (s : Setting) (a : Adversary) (sound : Sound s) where
           go i q k α H K N inn out =
               let level = node-level plan N in
               let m = inner-has plan i (length α) α (node-mem plan N) inn in
-              let some-level : length α ≡ suc (length α - 1) = positive (length α) (λ z. no-node plan i α (subst (λ x. List·Memᴰ α (nodes plan i x)) z (node-mem plan N))) in
+              let some-level : length α ≡ suc (length α - 1) = node-size plan N in
               cell-deliver i q (length α - 1) α (healthy-keeper s a sound i H) (healthy-keeper s a sound q K)
               (subst (λ x. List·Memᴰ α (inner plan i x)) some-level m) out (omega arith)
-            where
-              positive : (x : ℕ) → (x ≡ 0 → ⊥) → x ≡ suc (x - 1)
-              positive x h = let ne : x ≢ 0 = h in omega arith
 
       -- What a healthy board's node holds is the same for all healthy boards that are not on it.
       held : (i e : ℕ) (α : Label) → keeper s i ≡ true → List·Memᴰ α (inner plan i (suc e)) → suc e ≤ rounds plan .0 - 1 → member (last α) F ≡ false
