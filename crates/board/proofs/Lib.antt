@@ -1,0 +1,11 @@
+pub mod Bounds
+pub mod Places
+pub mod Walk
+pub mod Remaining
+pub mod Strokes
+pub mod Sent
+pub mod Own
+pub mod Judged
+pub mod Answers
+pub mod Sending
+pub mod Clearing

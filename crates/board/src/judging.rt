@@ -1,0 +1,132 @@
+// What the calls judge before they do anything.
+use plan::plan::Plan;
+use plan::refusal::Refusal;
+use plan::refusal::Verdict;
+use protocol::records::Record;
+use sets::boards::all_boards;
+use sets::boards::subset;
+use tree::levels::cell_count;
+ghost use mathlib.Core.Path.{_≡_};
+ghost use mathlib.Core.Bool.{_&&_};
+ghost use Prim.Native.Nat.{_≤_};
+ghost use Rattle.plan.specs.Outcome.{verdict};
+ghost use Rattle.plan.specs.Calls.{judged};
+ghost use Rattle.protocol.specs.Rounds.{Board};
+ghost use Rattle.protocol.specs.Calls.{isTaken, judgeBoard, judgeCells, goodMarks, goodDecision, goodRecord, judgeOpen};
+
+// A plan's own fields: 1 to 8. Above 32 sets only the number of boards comes before 3.
+pub fn judge_plan(plan: Plan) -> Verdict
+    ensures { λ v. ⌜ verdict v ≡ judged plan ⌝ }
+{
+    let sets = plan.sets;
+    let n = plan.n;
+    let count = plan.count;
+    if 32 < count {
+        if n == 0 {
+            return Verdict::Refused(Refusal::Boards);
+        }
+        if 7 < n {
+            return Verdict::Refused(Refusal::Boards);
+        }
+        return Verdict::Refused(Refusal::TooManySets);
+    }
+    let planned = Plan::new(
+        n,
+        &sets[0..count as usize],
+        plan.dealer,
+        plan.span,
+        plan.depth,
+    );
+    planned.answer
+}
+
+// The board's number: 9 and 10.
+pub fn judge_number(plan: Plan, board: u8) -> Verdict
+    ensures { λ v. ⌜ verdict v ≡ judgeBoard plan board ⌝ }
+{
+    let n = plan.n;
+    let dealer = plan.dealer;
+    if n <= board {
+        return Verdict::Refused(Refusal::BoardNumber);
+    }
+    if board == dealer {
+        return Verdict::Refused(Refusal::BoardIsDealer);
+    }
+    Verdict::Accepted
+}
+
+// 11, on a plan that is accepted.
+pub fn judge_cells(plan: Plan, cells: &[u8]) -> Verdict
+    requires { ⌜ judged plan .number ≡ 0 ⌝ }
+    ensures { λ v. ⌜ verdict v ≡ judgeCells plan (now (cells .entry)) ⌝ }
+{
+    if cells.len() < cell_count(plan.n) {
+        return Verdict::Refused(Refusal::ShortCells);
+    }
+    Verdict::Accepted
+}
+
+fn is_accepted(v: Verdict) -> bool
+    ensures { λ b. ⌜ b ≡ isTaken (verdict v) ⌝ }
+{
+    match v {
+        Verdict::Accepted => true,
+        Verdict::Refused(_) => false,
+    }
+}
+
+// The list, the marks and the decision of a record.
+fn has_good_fields(r: Record) -> bool
+    requires { ⌜ r .plan .n ≤ 8 ⌝ }
+    ensures { λ b. ⌜ b ≡ (goodMarks r && goodDecision r) ⌝ }
+{
+    let all = all_boards(r.plan.n);
+    let decided = r.decided;
+    let decision = r.decision;
+    let span = r.plan.span;
+    if !subset(r.detected, all) {
+        return false;
+    }
+    if !subset(r.taken, all) {
+        return false;
+    }
+    if decided {
+        return decision < span;
+    }
+    true
+}
+
+// Is it a record that 12 does not refuse?
+pub fn is_good(r: Record) -> bool
+    ensures { λ b. ⌜ b ≡ goodRecord r ⌝ }
+{
+    if !is_accepted(judge_plan(r.plan)) {
+        return false;
+    }
+    if !is_accepted(judge_number(r.plan, r.board)) {
+        return false;
+    }
+    if !r.plan.has_round(r.run, r.round) {
+        return false;
+    }
+    has_good_fields(r)
+}
+
+// 12, 11, 13.
+pub fn judge_open(r: Record, cells: &[u8]) -> Verdict
+    ensures { λ v. ⌜ verdict v ≡ judgeOpen (record { rec = r; cells = now (cells .entry) }) ⌝ }
+{
+    if !is_good(r) {
+        return Verdict::Refused(Refusal::BadRecord);
+    }
+    let decided = r.decided;
+    match judge_cells(r.plan, cells) {
+        Verdict::Refused(why) => Verdict::Refused(why),
+        Verdict::Accepted => {
+            if decided {
+                return Verdict::Refused(Refusal::Decided);
+            }
+            Verdict::Accepted
+        }
+    }
+}

@@ -1,0 +1,5 @@
+pub mod Seats
+pub mod Collect
+pub mod Table
+pub mod Voted
+pub mod Laws
