@@ -9,3 +9,8 @@ pub mod Judged
 pub mod Answers
 pub mod Sending
 pub mod Clearing
+pub mod Descending
+pub mod Level
+pub mod Masking
+pub mod Scanning
+pub mod Ending

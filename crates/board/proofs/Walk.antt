@@ -141,7 +141,7 @@ Carried p q α = not (member q (mask α)) && tolerated (listed p) (mask α)
 
 module _ (p : Plan) (i k : ℕ) (l : p .dealer < p .n) (low : k < rounds p .0) where
   -- Below level R a tolerated set is all it takes.
-  is-internal : (α : Label) → List·Memᴰ α (labels (p .n) (p .dealer) k) → internal p i α ≡ Tolerated p α
+  pub is-internal : (α : Label) → List·Memᴰ α (labels (p .n) (p .dealer) k) → internal p i α ≡ Tolerated p α
   unfolding internal
   is-internal α m =
       let e : ltb (length α) (rounds p .0) ≡ true = lt-ltb (length α) (rounds p .0) (omega (arith, label-length (p .n) (p .dealer) k α m)) in

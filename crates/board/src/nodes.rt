@@ -10,7 +10,7 @@ ghost use mathlib.Core.List.{_∷_};
 ghost use Prim.Native.Nat.{_≤_, _<_};
 ghost use lib.ListN.{length};
 ghost use Rattle.tree.specs.Labels.{occurs};
-ghost use Rattle.tree.specs.Places.{place};
+ghost use Rattle.tree.specs.Places.{levelSize, place};
 ghost use Rattle.protocol.specs.Nodes.{read};
 ghost use Rattle.protocol.specs.Calls.{goodRecord};
 ghost use Rattle.board.specs.Nodes.{Ready, IsNode, node};
@@ -30,5 +30,15 @@ pub fn child_value(r: Record, level: u8, index: usize, boards: u8, q: u8, cells:
     ensures { λ v. ⌜ v ≡ read (r .plan) (now (cells .entry)) (q ∷ node r level index) ⌝ }
 {
     let at = child_place(r, level, index, boards, q);
+    value_of(r.plan, cells[at])
+}
+
+// The value of a node's own cell.
+pub fn own_value(r: Record, level: u8, index: usize, cells: &[u8]) -> u8
+    requires { ⌜ Ready r (now cells) × (index < levelSize (r .plan .n) level) ⌝ }
+    ensures { λ v. ⌜ v ≡ read (r .plan) (now (cells .entry)) (node r level index) ⌝ }
+{
+    let n = r.plan.n;
+    let at = level_start(n, level) + index;
     value_of(r.plan, cells[at])
 }

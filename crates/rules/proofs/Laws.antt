@@ -108,8 +108,8 @@ module _ (p : Plan) (α : Label) (f : ℕ → Option ℕ) (detected : ℕ) where
         let l : v < p .span = ltb-true v (p .span) (and-l x y xy) in
         (l, sym (fits-table v l) ∙ and-r x y xy)
 
-  -- At an internal node of an accepted plan a value that explains is that of some child: else all children dissent, and no
-  -- tolerated set covers the boards with the node's own.
+  -- At an internal node of an accepted plan a value that explains is that of some child: else all children dissent, and with the
+  -- node's own boards, a tolerated set, they are all boards, against Q3.
   some-child : judged p .number ≡ 0 → tolerated (listed p) (mask α) ≡ true → ((i : ℕ) → occurs i α ≡ true → i < p .n)
       → (v : ℕ) → fits p α f detected v ≡ true → any (agrees α f v) (p .n) ≡ true
   unfolding tol

@@ -81,6 +81,14 @@ module _ (p : Plan) (s : ℕ) (values : List ℕ) where
     value = h .value;
   }
 
+  -- Child c elects another.
+  pub leading-two : (c found : ℕ) → Leading c found → electing c ≡ true → found ≢ 255 → found ≢ at values c → 255 ≡ voted p s values
+  unfolding voted worth blank
+  leading-two c found h t ne other =
+      let (l, e) = h .value ne in
+      let (l′, e′) = electing-value c t in
+      rw (only-two (elected p s values) (p .span) found (at values c) l l′ (λ z. other (sym z)) e e′)
+
   module _ (m : p .span ≤ 255) where
     -- Child c elects the first value, or the same one.
     pub leading-more : (c found : ℕ) → Leading c found → electing c ≡ true → (found ≢ 255 → found ≡ at values c) → Leading (c + 1) (at values c)
@@ -94,14 +102,7 @@ module _ (p : Plan) (s : ℕ) (values : List ℕ) where
       value = λ _. electing-value c t;
     }
 
-    -- Child c elects another.
-    pub leading-two : (c found : ℕ) → Leading c found → electing c ≡ true → found ≢ 255 → found ≢ at values c → 255 ≡ voted p s values
-    unfolding voted worth blank
-    leading-two c found h t ne other =
-        let (l, e) = h .value ne in
-        let (l′, e′) = electing-value c t in
-        rw (only-two (elected p s values) (p .span) found (at values c) l l′ (λ z. other (sym z)) e e′)
-
+    -- All children have been asked.
     pub leading-end : (c found : ℕ) → c ≡ seats p → Leading c found → found ≡ voted p s values
     unfolding voted worth blank
     leading-end c found all h =

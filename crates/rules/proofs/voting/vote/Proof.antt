@@ -38,7 +38,7 @@ returns c =
     let t = sym (c .before .before .before .elects .ensures) ∙ c .before .before .if1 .taken in
     ⊎-elim
     (λ w. absurd (c .if3 .taken (w .1)))
-    (λ w. leading-two a.plan a.boards a.t3 (omega arith) l.c l.found (l .inv .1) t (w .0 .left) (λ e. c .if3 .taken (w .1 ∙ e)))
+    (λ w. leading-two a.plan a.boards a.t3 l.c l.found (l .inv .1) t (w .0 .left) (λ e. c .if3 .taken (w .1 ∙ e)))
     (c .before .if2 .came)
 
 add-c : tie.Need-add-c Inv-loop μ-loop
