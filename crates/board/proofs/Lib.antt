@@ -1,16 +1,5 @@
-pub mod Bounds
-pub mod Places
-pub mod Walk
-pub mod Remaining
-pub mod Strokes
-pub mod Sent
-pub mod Own
 pub mod Judged
 pub mod Answers
-pub mod Sending
+pub mod Outgoing
 pub mod Clearing
-pub mod Descending
-pub mod Level
-pub mod Masking
-pub mod Scanning
 pub mod Ending

@@ -1,11 +1,11 @@
 // Closing a round.
 use crate::cells::keep_root;
-use crate::detection::detect_cells;
-use crate::gathering::copy_own;
-use crate::gathering::fill_missing;
 use crate::judging::judge_open;
-use crate::resolving::detect_levels;
-use crate::resolving::resolve_root;
+use detection::fd1::detect_cells;
+use detection::resolving::detect_levels;
+use detection::resolving::resolve_root;
+use frames::gathering::copy_own;
+use frames::gathering::fill_missing;
 use plan::refusal::Verdict;
 use plan::schedule::Round;
 use plan::schedule::Run;
@@ -21,7 +21,7 @@ ghost use Rattle.protocol.specs.Answers.{closingSays};
 ghost use Rattle.protocol.specs.Rounds.{Board, gather, nextRound, convert, close};
 ghost use Rattle.protocol.specs.Calls.{goodRecord, closing, closedValues};
 ghost use Rattle.plan.specs.Outcome.{taken};
-ghost use Rattle.board.specs.Nodes.{Ready};
+ghost use Rattle.frames.specs.Nodes.{Ready};
 ghost use Rattle.board.specs.Ended.{runEnded};
 
 // What was not handed in, the board's own cells, and rule G; the list.

@@ -1,10 +1,8 @@
 // The calls of a board.
-pub mod calls;
+pub mod beginning;
 mod cells;
 pub mod closing;
-mod detection;
-mod frames;
-mod gathering;
+pub mod dealing;
 mod judging;
-mod nodes;
-mod resolving;
+pub mod receiving;
+pub mod sending;

@@ -7,7 +7,7 @@ use lib.ListN.{set}
 use borrow.Author.Needs.{needs}
 use Rattle.protocol.specs.Rounds.{close}
 use Rattle.protocol.proofs.Judgement.{plan-facts}
-use Rattle.board.proofs.Places.{some-cell}
+use Rattle.frames.proofs.Places.{some-cell}
 use Rattle.board.proofs.Clearing.{cleared, cleared-root}
 use Rattle.board.proofs.cells.keep_root.Statement.{statement}
 use Rattle.board.proofs.cells.keep_root.Tie as tie

@@ -1,0 +1,4 @@
+pub mod Masking
+pub mod Scanning
+pub mod Descending
+pub mod Level

@@ -1,0 +1,7 @@
+pub mod Bounds
+pub mod Places
+pub mod Walk
+pub mod Remaining
+pub mod Strokes
+pub mod Sent
+pub mod Own
