@@ -1,0 +1,37 @@
+// Closes the largest round, round 7 of seven boards with 1,957 cells, a hundred times; writes the decision and the list.
+use board::beginning::begin;
+use board::closing::close;
+use libc::STDOUT_FILENO;
+use plan::plan::Plan;
+use plan::schedule::Round;
+
+// Cells of many values.
+fn scatter(cells: &mut [u8]) {
+    let mut i: usize = 0;
+    while i < cells.len() {
+        cells[i] = (i % 251) as u8;
+        i += 1;
+    }
+}
+
+fn main() {
+    // The one set that makes seven levels stands last of 32.
+    let mut sets = [1u8; 32];
+    sets[31] = 63;
+    let planned = Plan::new(7, &sets[0..32], 0, 255, 0);
+    let mut cells = [0u8; 1957];
+    let begun = begin(planned.plan, 6, &mut cells);
+    let mut r = begun.rec;
+    let round = Round(7);
+    r.round = round;
+    let mut out = [0u8; 2];
+    let mut i: usize = 0;
+    while i < 100 {
+        scatter(&mut cells);
+        let closed = close(r, &mut cells);
+        out[0] = closed.rec.decision;
+        out[1] = closed.rec.detected;
+        i += 1;
+    }
+    io::write_all(STDOUT_FILENO, &out);
+}
