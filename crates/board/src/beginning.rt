@@ -1,5 +1,6 @@
 // Beginning a board.
 use crate::cells::clear;
+use crate::judging::first_of;
 use crate::judging::judge_cells;
 use crate::judging::judge_number;
 use crate::judging::judge_plan;
@@ -54,13 +55,10 @@ fn void() -> Record
 fn judge_begin(plan: Plan, board: u8, cells: &[u8]) -> Verdict
     ensures { λ v. ⌜ verdict v ≡ judgeBeginning plan board (now (cells .entry)) ⌝ }
 {
-    match judge_plan(plan) {
-        Verdict::Refused(why) => Verdict::Refused(why),
-        Verdict::Accepted => match judge_number(plan, board) {
-            Verdict::Refused(why) => Verdict::Refused(why),
-            Verdict::Accepted => judge_cells(plan, cells),
-        },
-    }
+    let plan_judged = judge_plan(plan);
+    let number_judged = judge_number(plan, board);
+    let cells_judged = judge_cells(plan, cells);
+    first_of(plan_judged, first_of(number_judged, cells_judged))
 }
 
 // Beginning a board.

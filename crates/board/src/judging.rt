@@ -7,12 +7,16 @@ use sets::boards::all_boards;
 use sets::boards::subset;
 use tree::levels::cell_count;
 ghost use mathlib.Core.Path.{_≡_};
-ghost use mathlib.Core.Bool.{_&&_};
+ghost use mathlib.Core.Bool.{_&&_, cond};
+ghost use mathlib.Core.List.{[]};
 ghost use Prim.Native.Nat.{_≤_};
-ghost use Rattle.plan.specs.Outcome.{verdict};
-ghost use Rattle.plan.specs.Calls.{judged};
+ghost use lib.Dec.{ltb};
+ghost use lib.ListN.{length};
+ghost use Rattle.plan.specs.Outcome.{taken, refused, verdict};
+ghost use Rattle.plan.specs.Calls.{andThen, judged};
+ghost use Rattle.tree.specs.Places.{countWithin};
 ghost use Rattle.protocol.specs.Rounds.{Board};
-ghost use Rattle.protocol.specs.Calls.{isTaken, judgeBoard, judgeCells, goodMarks, goodDecision, goodRecord, judgeOpen};
+ghost use Rattle.protocol.specs.Calls.{isTaken, judgeBoard, goodMarks, goodDecision, goodRecord, judgeRecord, judgeOpen};
 
 // A plan's own fields: 1 to 8. Above 32 sets only the number of boards comes before 3.
 pub fn judge_plan(plan: Plan) -> Verdict
@@ -55,15 +59,24 @@ pub fn judge_number(plan: Plan, board: u8) -> Verdict
     Verdict::Accepted
 }
 
-// 11, on a plan that is accepted.
+// The board's cells: 11.
 pub fn judge_cells(plan: Plan, cells: &[u8]) -> Verdict
-    requires { ⌜ judged plan .number ≡ 0 ⌝ }
-    ensures { λ v. ⌜ verdict v ≡ judgeCells plan (now (cells .entry)) ⌝ }
+    ensures { λ v. ⌜ verdict v ≡ cond (ltb (length (now (cells .entry))) (countWithin (plan .n))) (refused 11) (taken []) ⌝ }
 {
     if cells.len() < cell_count(plan.n) {
         return Verdict::Refused(Refusal::ShortCells);
     }
     Verdict::Accepted
+}
+
+// What is judged first, if it refuses; else the next.
+pub fn first_of(first: Verdict, next: Verdict) -> Verdict
+    ensures { λ v. ⌜ verdict v ≡ andThen (verdict first) (verdict next) ⌝ }
+{
+    match first {
+        Verdict::Accepted => next,
+        Verdict::Refused(why) => Verdict::Refused(why),
+    }
 }
 
 fn is_accepted(v: Verdict) -> bool
@@ -97,7 +110,7 @@ fn has_good_fields(r: Record) -> bool
 }
 
 // Is it a record that 12 does not refuse?
-pub fn is_good(r: Record) -> bool
+fn is_good(r: Record) -> bool
     ensures { λ b. ⌜ b ≡ goodRecord r ⌝ }
 {
     if !is_accepted(judge_plan(r.plan)) {
@@ -112,21 +125,32 @@ pub fn is_good(r: Record) -> bool
     has_good_fields(r)
 }
 
+// The record: 12.
+fn judge_record(r: Record) -> Verdict
+    ensures { λ v. ⌜ verdict v ≡ judgeRecord r ⌝ }
+{
+    if is_good(r) {
+        return Verdict::Accepted;
+    }
+    Verdict::Refused(Refusal::BadRecord)
+}
+
+// Has the board decided? 13.
+fn judge_decided(decided: bool) -> Verdict
+    ensures { λ v. ⌜ verdict v ≡ cond decided (refused 13) (taken []) ⌝ }
+{
+    if decided {
+        return Verdict::Refused(Refusal::Decided);
+    }
+    Verdict::Accepted
+}
+
 // 12, 11, 13.
 pub fn judge_open(r: Record, cells: &[u8]) -> Verdict
     ensures { λ v. ⌜ verdict v ≡ judgeOpen (record { rec = r; cells = now (cells .entry) }) ⌝ }
 {
-    if !is_good(r) {
-        return Verdict::Refused(Refusal::BadRecord);
-    }
-    let decided = r.decided;
-    match judge_cells(r.plan, cells) {
-        Verdict::Refused(why) => Verdict::Refused(why),
-        Verdict::Accepted => {
-            if decided {
-                return Verdict::Refused(Refusal::Decided);
-            }
-            Verdict::Accepted
-        }
-    }
+    let record_judged = judge_record(r);
+    let cells_judged = judge_cells(r.plan, cells);
+    let decided_judged = judge_decided(r.decided);
+    first_of(record_judged, first_of(cells_judged, decided_judged))
 }

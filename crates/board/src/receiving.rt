@@ -24,10 +24,12 @@ fn judge_receive(r: Record, sender: u8, cells: &[u8]) -> Verdict
     match judge_open(r, cells) {
         Verdict::Refused(why) => Verdict::Refused(why),
         Verdict::Accepted => {
-            if !is_due(r, sender) {
+            let due = is_due(r, sender);
+            let again = has(taken, sender);
+            if !due {
                 return Verdict::Refused(Refusal::NotDue);
             }
-            if has(taken, sender) {
+            if again {
                 return Verdict::Refused(Refusal::AlreadyTaken);
             }
             Verdict::Accepted

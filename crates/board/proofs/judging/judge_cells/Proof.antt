@@ -1,17 +1,12 @@
--- `judge_cells` meets its contract.
+-- `judge_cells` meets its contract: 11.
 -- Assumes nothing.
-use Prim.Native.Nat.{_-_}
-use mathlib.Core.Path.{_∙_}
-use native.Mathlib.Omega.{arith}
+use Prim.Native.Nat.{_-_, _≤_, _<_}
+use mathlib.Core.Path.{refl, subst}
 use lib.ListN.{length}
 use borrow.Author.Needs.{needs}
 use borrow.Author.Tests.{lt-ltb, le-ltb}
-use Rattle.plan.specs.Outcome.{refusal, verdict}
-use Rattle.tree.specs.Places.{cellCount}
-use Rattle.tree.proofs.Within.{count-within}
+use Rattle.plan.specs.Outcome.{taken, refusal, verdict}
 use Rattle.protocol.specs.Rounds.{close}
-use Rattle.protocol.specs.Calls.{judgeCells}
-use Rattle.protocol.proofs.Judgement.{plan-facts}
 use Rattle.board.proofs.judging.judge_cells.Statement.{statement}
 use Rattle.board.proofs.judging.judge_cells.Tie as tie
 
@@ -19,20 +14,12 @@ cell-count-requires : tie.Need-cell-count-requires
 cell-count-requires c κs = search needs
 
 returns : tie.Need-returns
-unfolding verdict refusal judgeCells
-returns c =
-    let a = c .before .before .before .args in
-    let f = plan-facts a.plan (c .before .before .before .pre) .admission in
-    let e = c .before .cell-count .ensures ∙ count-within (a.plan .n) (f .some-board) (f .most-boards) in
-    simp (lt-ltb (length (a.cells .now)) (cellCount (a.plan .n)) (omega (arith, e)))
+unfolding verdict refusal
+returns c = rw (lt-ltb _ _ (subst (λ k. length (c .before .before .before .args .cells .now) < k) (c .before .cell-count .ensures) (c .if1 .taken))) refl
 
 returns-2 : tie.Need-returns-2
-unfolding verdict refusal judgeCells
-returns-2 c =
-    let a = c .before .before .before .args in
-    let f = plan-facts a.plan (c .before .before .before .pre) .admission in
-    let e = c .before .cell-count .ensures ∙ count-within (a.plan .n) (f .some-board) (f .most-boards) in
-    simp (le-ltb (length (a.cells .now)) (cellCount (a.plan .n)) (omega (arith, e)))
+unfolding verdict refusal
+returns-2 c = rw (le-ltb _ _ (subst (λ k. k ≤ length (c .before .before .before .args .cells .now)) (c .before .cell-count .ensures) (c .if1 .left))) refl
 
 pub judge-cells-spec : {M : Type 1} → statement M
 judge-cells-spec = tie.close (tie.spec cell-count-requires returns returns-2)

@@ -32,10 +32,10 @@ is-due-requires c κs =
 returns : tie.Need-returns
 unfolding verdict refusal
 returns c =
-    let a = c .before .before .before .before .before .before .args in
+    let a = c .before .before .before .before .before .before .before .args in
     let o : Board = record { rec = a.r; cells = a.cells .now } in
-    let ok = ap verdict (sym (c .before .before .enum-told .given .1)) ∙ c .before .before .before .before .judge-open .ensures in
-    sym (receive-judged o a.sender (ap (λ x. x .number) (sym ok)) ∙ rw (sym (c .before .is-due .ensures) ∙ not-t _ (c .if1 .taken)) refl)
+    let ok = ap verdict (sym (c .before .before .before .enum-told .given .1)) ∙ c .before .before .before .before .before .judge-open .ensures in
+    sym (receive-judged o a.sender (ap (λ x. x .number) (sym ok)) ∙ rw (sym (c .before .before .is-due .ensures) ∙ not-t _ (c .if1 .taken)) refl)
 
 has-requires : tie.Need-has-requires
 has-requires c κs = search needs
@@ -46,7 +46,7 @@ returns-2 c =
     let a = c .before .before .before .before .before .before .before .before .args in
     let o : Board = record { rec = a.r; cells = a.cells .now } in
     let ok = ap verdict (sym (c .before .before .before .before .enum-told .given .1)) ∙ c .before .before .before .before .before .before .judge-open .ensures in
-    sym (receive-judged o a.sender (ap (λ x. x .number) (sym ok)) ∙ rw (sym (c .before .before .before .is-due .ensures) ∙ not-f _ (c .before .before .if1 .left), sym (c .before .has .ensures) ∙ c .if2 .taken) refl)
+    sym (receive-judged o a.sender (ap (λ x. x .number) (sym ok)) ∙ rw (sym (c .before .before .before .is-due .ensures) ∙ not-f _ (c .before .if1 .left), sym (c .before .before .has .ensures) ∙ c .if2 .taken) refl)
 
 returns-3 : tie.Need-returns-3
 unfolding verdict
@@ -62,7 +62,7 @@ returns-4 c =
     let a = c .before .before .before .before .before .before .before .before .args in
     let o : Board = record { rec = a.r; cells = a.cells .now } in
     let ok = ap verdict (sym (c .before .before .before .before .enum-told .given .1)) ∙ c .before .before .before .before .before .before .judge-open .ensures in
-    sym (receive-judged o a.sender (ap (λ x. x .number) (sym ok)) ∙ rw (sym (c .before .before .before .is-due .ensures) ∙ not-f _ (c .before .before .if1 .left), sym (c .before .has .ensures) ∙ c .if2 .left) refl)
+    sym (receive-judged o a.sender (ap (λ x. x .number) (sym ok)) ∙ rw (sym (c .before .before .before .is-due .ensures) ∙ not-f _ (c .before .if1 .left), sym (c .before .before .has .ensures) ∙ c .if2 .left) refl)
 
 pub judge-receive-spec : {M : Type 1} → statement M
 judge-receive-spec =
@@ -72,8 +72,8 @@ judge-receive-spec =
     enum-known-why
     enum-told
     is-due-requires
-    returns
     has-requires
+    returns
     returns-2
     returns-3
     returns-4)

@@ -1,0 +1,32 @@
+-- `first_of` meets its contract.
+-- Assumes nothing.
+use Prim.Native.Nat.{_-_}
+use mathlib.Core.Path.{sym, ap, _∙_}
+use borrow.Author.Needs.{needs}
+use Rattle.plan.specs.Outcome.{verdict}
+use Rattle.plan.proofs.Outcomes.{refusal-number, taken-first, refused-first}
+use Rattle.protocol.specs.Rounds.{close}
+use Rattle.board.proofs.judging.first_of.Statement.{statement}
+use Rattle.board.proofs.judging.first_of.Tie as tie
+
+enum-told : tie.Need-enum-told
+enum-told c = search needs
+
+enum-known-first : tie.Need-enum-known-first
+enum-known-first c = search needs
+
+returns : tie.Need-returns
+unfolding verdict
+returns c =
+    let a = c .before .before .args in
+    sym (taken-first (verdict a.first) (verdict a.next) (ap (λ v. verdict v .number) (c .enum-told .given .1)))
+
+returns-2 : tie.Need-returns-2
+unfolding verdict
+returns-2 c =
+    let a = c .before .before .before .args in
+    let no = ap verdict (sym (c .before .first .given .1)) in
+    no ∙ sym (refused-first (verdict a.first) (verdict a.next) (λ z. refusal-number (c .before .first .given .0 .0) (ap (λ o. o .number) no ∙ z)))
+
+pub first-of-spec : {M : Type 1} → statement M
+first-of-spec = tie.close (tie.spec enum-told enum-known-first returns returns-2)
