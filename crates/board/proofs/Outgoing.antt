@@ -2,15 +2,15 @@
 -- Assumes nothing.
 use Prim.Native.Nat.{ℕ, zero, suc, _-_, _≤_, _<_}
 use mathlib.Core.Path.{_≡_, refl, sym, ap, ap₂, _∙_}
-use mathlib.Core.Logic.{_≢_}
-use mathlib.Core.Bool.{true, false, not, _&&_, cond}
+use mathlib.Core.Logic.{_≢_, ⊎-elim}
+use mathlib.Core.Bool.{Bool, true, false, not, _&&_, _||_}
 use mathlib.Core.List.{List, [], _∷_, _++_, map}
 use native.Mathlib.Omega.{arith}
 use lib.Dec.{eqb, ltb}
 use lib.ListN.{length, length-map, drop}
-use borrow.Author.Tests.{eq-eqb, ne-eqb, eqb-true, eqb-false, lt-ltb, le-ltb, ltb-true}
+use borrow.Author.Tests.{eq-eqb, ne-eqb, eqb-true, eqb-false, lt-ltb, le-ltb, ltb-true, ltb-false}
 use Rattle.sets.specs.Search.{any}
-use Rattle.sets.proofs.Tests.{cases, clash, is-false, and-l, and-r, and-true, not-t, true-not}
+use Rattle.sets.proofs.Tests.{cases, clash, is-false, and-l, and-r, not-t, or-true, or-l, or-r}
 use Rattle.sets.proofs.Search.{any-true, any-of}
 use Rattle.plan.specs.declared.plan.Plan.{Plan}
 use Rattle.plan.specs.Outcome.{taken, refused}
@@ -101,20 +101,29 @@ module _ (b : Board) (o : Open b) (out : List ℕ) where
       ≡ frameOf b ++ drop (length (frameOf b)) out
   later-written = ap₂ (λ f k. f ++ drop k out) (sym frame-later) later-length
 
-  pub send-none : length (sent (b .rec .plan) (b .rec .board) (b .rec .board) (b .rec .round)) ≡ 0 → judgeSending b out ≡ refused 16
-  send-none e = send-judged b out (ap (λ x. x .number) (open-taken b o)) ∙ rw (none-sent (b .rec) (o .good) e) refl
+  -- Nothing is due to another board exactly if the frame is empty or there is no other board.
+  abbrev idle : Bool
+  idle = eqb (length (sent (b .rec .plan) (b .rec .board) (b .rec .board) (b .rec .round))) 0 || ltb (b .rec .plan .n) 3
 
-  pub send-alone : b .rec .plan .n < 3 → judgeSending b out ≡ refused 16
-  send-alone l = send-judged b out (ap (λ x. x .number) (open-taken b o)) ∙ rw (none-other (b .rec) (o .good) l) refl
+  pub send-idle : idle ≡ true → judgeSending b out ≡ refused 16
+  send-idle e =
+      send-judged b out (ap (λ x. x .number) (open-taken b o))
+      ∙ rw (⊎-elim
+      (λ z. none-sent (b .rec) (o .good) (eqb-true _ 0 z))
+      (λ z. none-other (b .rec) (o .good) (ltb-true (b .rec .plan .n) 3 z))
+      (or-true _ _ e)) refl
 
-  module _ (some : length (sent (b .rec .plan) (b .rec .board) (b .rec .board) (b .rec .round)) ≢ 0) (l : 3 ≤ b .rec .plan .n) where
-    pub send-short : length out < length (sent (b .rec .plan) (b .rec .board) (b .rec .board) (b .rec .round)) → judgeSending b out ≡ refused 17
-    send-short h =
-        send-judged b out (ap (λ x. x .number) (open-taken b o))
-        ∙ rw (some-other (b .rec) (o .good) some l, lt-ltb (length out) (length (frameOf b)) (omega (arith, frame-length))) refl
+  send-some : idle ≡ false → any (λ i. due (b .rec .plan) (b .rec .board) i (b .rec .round)) (b .rec .plan .n) ≡ true
+  send-some e =
+      some-other (b .rec) (o .good) (eqb-false _ 0 (or-l _ _ e)) (ltb-false (b .rec .plan .n) 3 (or-r (eqb (length (sent (b .rec .plan) (b .rec .board) (b .rec .board) (b .rec .round))) 0) _ e))
 
-    pub send-fits : length (sent (b .rec .plan) (b .rec .board) (b .rec .board) (b .rec .round)) ≤ length out
-        → judgeSending b out ≡ taken (length (frameOf b) ∷ [])
-    send-fits h =
-        send-judged b out (ap (λ x. x .number) (open-taken b o))
-        ∙ rw (some-other (b .rec) (o .good) some l, le-ltb (length out) (length (frameOf b)) (omega (arith, frame-length))) refl
+  pub send-short : idle ≡ false → length out < length (sent (b .rec .plan) (b .rec .board) (b .rec .board) (b .rec .round)) → judgeSending b out ≡ refused 17
+  send-short e h =
+      send-judged b out (ap (λ x. x .number) (open-taken b o))
+      ∙ rw (send-some e, lt-ltb (length out) (length (frameOf b)) (omega (arith, frame-length))) refl
+
+  pub send-fits : idle ≡ false → length (sent (b .rec .plan) (b .rec .board) (b .rec .board) (b .rec .round)) ≤ length out
+      → judgeSending b out ≡ taken (length (frameOf b) ∷ [])
+  send-fits e h =
+      send-judged b out (ap (λ x. x .number) (open-taken b o))
+      ∙ rw (send-some e, le-ltb (length out) (length (frameOf b)) (omega (arith, frame-length))) refl

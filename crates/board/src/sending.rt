@@ -7,11 +7,22 @@ use plan::refusal::Verdict;
 use protocol::answers::Sent;
 use protocol::records::Record;
 ghost use mathlib.Core.Path.{_≡_};
-ghost use Prim.Native.Nat.{_<_};
+ghost use mathlib.Core.Bool.{_||_};
+ghost use lib.Dec.{eqb, ltb};
 ghost use Rattle.protocol.specs.Answers.{sentSays};
 ghost use Rattle.protocol.specs.Calls.{sending};
 
-// Writing a frame. Another board that keeps cells takes three boards, with this one and the dealer.
+// Is there nothing to send? Another board that keeps cells takes three boards, with this one and the dealer.
+fn is_idle(n: u8, k: usize) -> bool
+    ensures { λ b. ⌜ b ≡ (eqb k 0 || ltb n 3) ⌝ }
+{
+    if k == 0 {
+        return true;
+    }
+    n < 3
+}
+
+// Writing a frame.
 pub fn send(r: Record, cells: &[u8], out: &mut [u8]) -> Sent
     ensures { λ x. ⌜ (sentSays x ≡ sending (record { rec = r; cells = now (cells .entry) }) (now (out .entry)) .answer) × (now (out .exit) ≡ sending (record { rec = r; cells = now (cells .entry) }) (now (out .entry)) .out) ⌝ }
 {
@@ -21,10 +32,8 @@ pub fn send(r: Record, cells: &[u8], out: &mut [u8]) -> Sent
         Verdict::Refused(why) => Sent::Refused(why),
         Verdict::Accepted => {
             let k = frame_length(r, board);
-            if k == 0 {
-                return Sent::Refused(Refusal::NothingToSend);
-            }
-            if n < 3 {
+            let idle = is_idle(n, k);
+            if idle {
                 return Sent::Refused(Refusal::NothingToSend);
             }
             if out.len() < k {

@@ -2,8 +2,10 @@
 -- Assumes nothing.
 use Prim.Native.Nat.{_-_}
 use mathlib.Core.Path.{sym, ap, _∙_}
+use mathlib.Core.Bool.{_||_}
 use mathlib.Core.List.{[], _∷_}
 use native.Mathlib.Omega.{arith}
+use lib.Dec.{eqb, ltb}
 use lib.ListN.{length}
 use borrow.Author.Needs.{needs}
 use Rattle.plan.specs.Outcome.{taken, refused, refusal, verdict}
@@ -13,7 +15,7 @@ use Rattle.protocol.specs.Calls.{frameOf}
 use Rattle.protocol.specs.Answers.{sentSays}
 use Rattle.protocol.proofs.Judgement.{open-facts, record-good}
 use Rattle.frames.proofs.Own.{own-later}
-use Rattle.board.proofs.Outgoing.{later-length, later-written, send-none, send-alone, send-short, send-fits}
+use Rattle.board.proofs.Outgoing.{later-length, later-written, send-idle, send-short, send-fits}
 use Rattle.board.proofs.Answers.{send-refused, send-taken, send-closed}
 use Rattle.board.proofs.sending.send.Statement.{statement}
 use Rattle.board.proofs.sending.send.Tie as tie
@@ -36,33 +38,30 @@ frame-length-requires c κs =
     let f = open-facts o (ap (λ x. x .number) (sym ok)) in
     record-good a.r (f .good)
 
+is-idle-requires : tie.Need-is-idle-requires
+is-idle-requires c κs = search needs
+
 returns : tie.Need-returns
 unfolding sentSays verdict refusal
 returns c =
-    let a = c .before .before .before .before .before .before .before .args in
-    let o : Board = record { rec = a.r; cells = a.cells .now } in
-    let ok = ap verdict (sym (c .before .before .enum-told .given .1)) ∙ c .before .before .before .before .judge-open .ensures in
-    let f = open-facts o (ap (λ x. x .number) (sym ok)) in
-    send-refused o (a.out .now) (refused 16) (sym (send-none o f (a.out .now) (sym (c .before .frame-length .ensures) ∙ c .if1 .taken))) (omega arith)
-
-returns-2 : tie.Need-returns-2
-unfolding sentSays verdict refusal
-returns-2 c =
     let a = c .before .before .before .before .before .before .before .before .args in
     let o : Board = record { rec = a.r; cells = a.cells .now } in
     let ok = ap verdict (sym (c .before .before .before .enum-told .given .1)) ∙ c .before .before .before .before .before .judge-open .ensures in
     let f = open-facts o (ap (λ x. x .number) (sym ok)) in
-    send-refused o (a.out .now) (refused 16) (sym (send-alone o f (a.out .now) (c .if2 .taken))) (omega arith)
+    let k = c .before .before .frame-length .ensures in
+    let i = ap (λ x. eqb x 0 || ltb (a.r .plan .n) 3) (sym k) ∙ sym (c .before .is-idle .ensures) in
+    send-refused o (a.out .now) (refused 16) (sym (send-idle o f (a.out .now) (i ∙ c .if1 .taken))) (omega arith)
 
-returns-3 : tie.Need-returns-3
+returns-2 : tie.Need-returns-2
 unfolding sentSays verdict refusal
-returns-3 c =
+returns-2 c =
     let a = c .before .before .before .before .before .before .before .before .before .args in
     let o : Board = record { rec = a.r; cells = a.cells .now } in
     let ok = ap verdict (sym (c .before .before .before .before .enum-told .given .1)) ∙ c .before .before .before .before .before .before .judge-open .ensures in
     let f = open-facts o (ap (λ x. x .number) (sym ok)) in
     let k = c .before .before .before .frame-length .ensures in
-    send-refused o (a.out .now) (refused 17) (sym (send-short o f (a.out .now) (λ z. c .before .before .if1 .left (k ∙ z)) (c .before .if2 .left) (omega (arith, k, c .if3 .taken)))) (omega arith)
+    let i = ap (λ x. eqb x 0 || ltb (a.r .plan .n) 3) (sym k) ∙ sym (c .before .before .is-idle .ensures) in
+    send-refused o (a.out .now) (refused 17) (sym (send-short o f (a.out .now) (i ∙ c .before .if1 .left) (omega (arith, k, c .if2 .taken)))) (omega arith)
 
 write-frame-requires : tie.Need-write-frame-requires
 unfolding verdict
@@ -71,11 +70,11 @@ write-frame-requires c κs =
     let o : Board = record { rec = a.r; cells = a.cells .now } in
     let ok = ap verdict (sym (c .before .before .before .before .before .enum-told .given .1)) ∙ c .before .before .before .before .before .before .before .judge-open .ensures in
     let f = open-facts o (ap (λ x. x .number) (sym ok)) in
-    ((record-good a.r (f .good), f .room), omega (arith, ap length (own-later a.r (record-good a.r (f .good))), c .before .before .before .before .frame-length .ensures, c .before .if3 .left))
+    ((record-good a.r (f .good), f .room), omega (arith, ap length (own-later a.r (record-good a.r (f .good))), c .before .before .before .before .frame-length .ensures, c .before .if2 .left))
 
-returns-4 : tie.Need-returns-4
+returns-3 : tie.Need-returns-3
 unfolding sentSays verdict
-returns-4 c =
+returns-3 c =
     let a = c .before .before .before .before .before .before .args in
     let o : Board = record { rec = a.r; cells = a.cells .now } in
     let no = ap verdict (sym (c .before .why .given .1)) ∙ c .before .before .before .judge-open .ensures in
@@ -84,15 +83,16 @@ returns-4 c =
 same-length : tie.Need-same-length
 same-length c = search needs
 
-returns-5 : tie.Need-returns-5
+returns-4 : tie.Need-returns-4
 unfolding sentSays verdict
-returns-5 c =
+returns-4 c =
     let a = c .before .before .before .before .before .before .before .before .before .before .before .before .before .args in
     let o : Board = record { rec = a.r; cells = a.cells .now } in
     let ok = ap verdict (sym (c .before .before .before .before .before .before .before .before .enum-told .given .1)) ∙ c .before .before .before .before .before .before .before .before .before .before .judge-open .ensures in
     let f = open-facts o (ap (λ x. x .number) (sym ok)) in
     let k = c .before .before .before .before .before .before .before .frame-length .ensures in
-    let (x, y) = send-taken o (a.out .now) (length (frameOf o)) (sym (send-fits o f (a.out .now) (λ z. c .before .before .before .before .before .before .if1 .left (k ∙ z)) (c .before .before .before .before .before .if2 .left) (omega (arith, k, c .before .before .before .before .if3 .left)))) in
+    let i = ap (λ x. eqb x 0 || ltb (a.r .plan .n) 3) (sym k) ∙ sym (c .before .before .before .before .before .before .is-idle .ensures) in
+    let (x, y) = send-taken o (a.out .now) (length (frameOf o)) (sym (send-fits o f (a.out .now) (i ∙ c .before .before .before .before .before .if1 .left) (omega (arith, k, c .before .before .before .before .if2 .left)))) in
     let w = c .before .before .write-frame .ensures in
     (ap (λ n. taken (n ∷ [])) (w .0 ∙ later-length o f (a.out .now)) ∙ x, w .1 ∙ later-written o f (a.out .now) ∙ y)
 
@@ -104,10 +104,10 @@ send-spec =
     enum-known-why
     enum-told
     frame-length-requires
+    is-idle-requires
     returns
     returns-2
-    returns-3
     write-frame-requires
-    returns-4
+    returns-3
     same-length
-    returns-5)
+    returns-4)

@@ -1,0 +1,18 @@
+-- `is_idle` meets its contract.
+-- Assumes nothing.
+use Prim.Native.Nat.{_-_}
+use mathlib.Core.Path.{refl}
+use borrow.Author.Tests.{eq-eqb, ne-eqb}
+use Rattle.plan.specs.Outcome.{taken}
+use Rattle.protocol.specs.Rounds.{close}
+use Rattle.board.proofs.sending.is_idle.Statement.{statement}
+use Rattle.board.proofs.sending.is_idle.Tie as tie
+
+returns : tie.Need-returns
+returns c = rw (eq-eqb _ _ (c .if1 .taken)) refl
+
+returns-2 : tie.Need-returns-2
+returns-2 c = rw (ne-eqb _ _ (c .if1 .left)) refl
+
+pub is-idle-spec : {M : Type 1} → statement M
+is-idle-spec = tie.close (tie.spec returns returns-2)
