@@ -244,7 +244,7 @@ module _ (r : Record) (g : Good r) (undecided : r .decided ≡ false) (msg : ℕ
   unfoldable pub filled : List ℕ
   filled = copyOwn marked stored
 
-  heard-outside : (j : ℕ) → j ≤ P₀ .n → SameOutside P₀ L₀ (r .board) (r .round .0) cells (heardCells r msg cells j)
+  pub heard-outside : (j : ℕ) → j ≤ P₀ .n → SameOutside P₀ L₀ (r .board) (r .round .0) cells (heardCells r msg cells j)
   unfolding heardCells
   heard-outside zero h b γ m out = refl
   heard-outside (suc q) h b γ m out =
