@@ -18,8 +18,9 @@ use Rattle.plan.specs.Calls.{andThen, admitting, planning, judged}
 use Rattle.plan.proofs.Outcomes.{taken-first, refused-first, both-taken}
 use Rattle.tree.specs.Places.{countWithin}
 use Rattle.tree.proofs.Within.{count-within}
+use Rattle.protocol.specs.declared.records.Record.{Record}
 use Rattle.protocol.specs.Rounds.{Board}
-use Rattle.protocol.specs.Calls.{judgeBoard, judgeCells, judgeRecord, judgeOpen, judgeBeginning, dealing}
+use Rattle.protocol.specs.Calls.{judgeBoard, judgeCells, judgeRecord, judgeOpen, judgeBeginning, dealing, deciding}
 use Rattle.protocol.proofs.Judgement.{plan-facts, record-facts}
 
 -- A plan with a count above 32
@@ -107,3 +108,24 @@ module _ (p : Plan) (v : ℕ) where
       cases (leb (p .span) v)
       (λ h. let (x, y) = deal-high h g in let n : 0 ≡ 18 = ap (λ (z : Outcome). z .number) (e ∙ x) in absurd (omega arith))
       (λ h. let (x, y) = deal-low h g in sym y)
+
+-- Reading the decision
+
+module _ (r : Record) where
+  abbrev pub settled : Outcome
+  settled = cond (r .decided) (taken []) (refused 19)
+
+  pub decide-refused : (o : Outcome) → o ≡ andThen (judgeRecord r) settled → o .number ≢ 0 → o ≡ deciding r
+  unfolding deciding
+  decide-refused o e ne =
+      e ∙ then-same (judgeRecord r) settled (cond (r .decided) (taken (r .decision ∷ [])) (refused 19))
+      (λ g. cases (r .decided)
+      (λ d. let z : settled ≡ taken [] = rw d refl in absurd (ne (ap (λ (z : Outcome). z .number) (e ∙ taken-first (judgeRecord r) settled g ∙ z))))
+      (λ d. rw d refl))
+
+  pub decide-taken : taken [] ≡ andThen (judgeRecord r) settled → taken (r .decision ∷ []) ≡ deciding r
+  unfolding deciding
+  decide-taken e =
+      let (g, h) = both-taken (judgeRecord r) settled (ap (λ (z : Outcome). z .number) (sym e)) in
+      let d : r .decided ≡ true = cases (r .decided) (λ x. x) (λ x. absurd (let z : 19 ≡ 0 = rw x at h in let y : ⊥ = omega arith in y)) in
+      sym (taken-first (judgeRecord r) _ g ∙ rw d refl)

@@ -126,7 +126,7 @@ fn is_good(r: Record) -> bool
 }
 
 // The record: 12.
-fn judge_record(r: Record) -> Verdict
+pub fn judge_record(r: Record) -> Verdict
     ensures { λ v. ⌜ verdict v ≡ judgeRecord r ⌝ }
 {
     if is_good(r) {
