@@ -1,7 +1,7 @@
 -- A round writes only the cells of its own level's nodes, and keeps the buffer's length.
 -- Assumes nothing.
 use Prim.Native.Nat.{ℕ, zero, suc, _-_, _≤_, _<_}
-use mathlib.Core.Path.{_≡_, refl, sym, _∙_, subst}
+use mathlib.Core.Path.{_≡_, refl, sym, _∙_, subst, ap}
 use mathlib.Core.Bool.{not, _&&_}
 use mathlib.Core.List.{List, [], _∷_, List·Memᴰ, List·Memᴰ·head, List·Memᴰ·tail}
 use native.Mathlib.Omega.{arith}
@@ -20,6 +20,7 @@ use Rattle.protocol.specs.Detection.{Scan, maskBoard, byCell, passes, de
 use Rattle.protocol.specs.Rounds.{fill, fillMissing, copyOwn, gather}
 use Rattle.protocol.proofs.Nodes.{inner-inv, node-label, node-length, sent-node}
 use Rattle.protocol.proofs.Fill.{IsLabel, fill-length, fill-other}
+use Rattle.protocol.proofs.Turns.{taken-stays}
 
 module _ (p : Plan) (l : p .dealer < p .n) (i : ℕ) where
   -- Outside the nodes of level k the cells are the same.
@@ -97,9 +98,11 @@ module _ (r : Record) (l : r .plan .dealer < r .plan .n) (low : 1 ≤ r .round .
   missing-outside zero cells h b γ m out = refl
   missing-outside (suc k) cells h b γ m out =
       let before = missing-outside k cells (omega arith) b γ m out in
-      cases (due (r .plan) k (r .board) (r .round) && not (member k (r .taken)))
-      (λ e. rw e (fill-outside (r .plan) l (r .board) k (r .round) [] (fillMissing r k cells) low h b γ m out ∙ before))
-      (λ e. rw e before)
+      cases (member k (r .taken))
+      (λ t. ap (λ c. cellAt (r .plan .n) c γ) (taken-stays r k cells t) ∙ before)
+      (λ t. cases (due (r .plan) k (r .board) (r .round))
+      (λ d. rw (d, t) (fill-outside (r .plan) l (r .board) k (r .round) [] (fillMissing r k cells) low h b γ m out ∙ before))
+      (λ d. rw d before))
 
   pub missing-length : (k : ℕ) (cells : List ℕ) → length (fillMissing r k cells) ≡ length cells
   unfolding fillMissing

@@ -36,6 +36,7 @@ use Rattle.protocol.proofs.Fill.{IsLabel, fill-other, fill-length}
 use Rattle.protocol.proofs.Local.{gather-outside, gather-length}
 use Rattle.protocol.proofs.Judgement.{is-taken, taken-is, plan-facts, Good, good-dealer, Open, open-facts, cells-facts, board-facts}
 use Rattle.protocol.proofs.Bounds.{insert-below, gather-below, levels-below, root-small}
+use Rattle.protocol.proofs.Turns.{frame-stored, decides-root}
 
 -- A begun board's record is good.
 pub fresh-good : (p : Plan) (i : ℕ) → judged p .number ≡ 0 → i < p .n → i ≢ p .dealer → Good (freshRecord p i)
@@ -95,14 +96,16 @@ convert-good b s g d =
     let two = plan-facts p (g .plan-good) .two-values in
     let listed-below = levels-below p (good-dealer r g) (r .board) (s .cells) (rounds p .0 - 1) (s .detected) d in
     cases (eqb (r .run .0) (runs p .0))
-    (λ e. rw e (record {
+    (λ e. let small : convert r s .rec .decision < p .span =
+    subst {A = ℕ} (λ v. v < p .span) (sym (decides-root r s e)) (root-small p (omega arith) (r .board) (s .cells)) in
+    rw e (record {
       plan-good = g .plan-good;
       below = g .below;
       other = g .other;
       position = g .position;
       detected-below = listed-below;
       taken-below = pow-pos (p .n);
-      decision-below = λ _. root-small p (omega arith) (r .board) (s .cells);
+      decision-below = λ _. rw e at small;
     }))
     (λ e. let ne : r .run .0 ≢ runs p .0 = eqb-false (r .run .0) (runs p .0) e in
     rw e (record {
@@ -194,7 +197,8 @@ receive-vacant q f b o lq h l k α m v =
     let p = b .rec .plan in
     let i = b .rec .board in
     let αs = sent p q i (b .rec .round) in
-    fill-other p l q (b .rec .round .0) αs (counted (b .rec) q αs f) (b .cells) k α
+    ap (λ c. cellAt (p .n) c α) (frame-stored q f b)
+    ∙ fill-other p l q (b .rec .round .0) αs (counted (b .rec) q αs f) (b .cells) k α
     (λ β w. node-label p i (b .rec .round .0) (q ∷ β) (sent-node p i q (b .rec .round) β (o .good .position .round-low) lq w)) m
     (apart q f b o lq l k α m v)
     ∙ h l k α m (still q f b o lq l k α v)
