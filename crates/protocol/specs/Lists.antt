@@ -33,7 +33,9 @@ caller (sends i out) = i
 caller (closes i) = i
 caller (decides i) = i
 
--- What a call does to its board, and what it answers: literally the definitions of the calls.
+-- What a call does to its board, and what it answers: literally the definitions of the calls, which stand in the `ensures` of the public
+-- functions of the crate `board`: `receiving` of receiving::receive, `sending` of sending::send, `closing` of closing::close, `deciding` of
+-- deciding::decide. A board begins by `beginning` (beginning::begin), and the dealer's frame is `dealing` (dealing::deal).
 unfoldable pub leaves : Call → Board → Board
 leaves (receives i q f) b = receiving b q f .board
 leaves (sends i out) b = b
