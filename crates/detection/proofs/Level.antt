@@ -1,4 +1,4 @@
--- A walk over the internal nodes of a level: what the code learns of one node, and rule C from node to node.
+-- Rule C from node to node of a level, and from level to level.
 -- Assumes nothing.
 use Prim.Native.Nat.{ℕ, zero, suc, _+_, _-_, _*_, _%_, _≤_, _<_, _^_}
 use mathlib.Core.Path.{_≡_, refl, sym, ap, _∙_}
@@ -11,40 +11,17 @@ use Rattle.sets.specs.Sets.{insert}
 use Rattle.sets.specs.Structure.{tolerated}
 use Rattle.plan.specs.declared.plan.Plan.{Plan}
 use Rattle.plan.specs.Schedule.{listed, rounds}
-use Rattle.tree.specs.Labels.{mask, last, labelWithin, labelAt}
-use Rattle.tree.specs.Places.{levelSize, sizeWithin}
+use Rattle.tree.specs.Places.{sizeWithin}
 use Rattle.tree.proofs.Descent.{insert-byte}
-use Rattle.tree.proofs.Limits.{label-within}
 use Rattle.tree.proofs.Within.{size-within}
 use Rattle.protocol.specs.declared.records.Record.{Record}
 use Rattle.protocol.specs.Nodes.{inner}
 use Rattle.protocol.specs.Detection.{join, byResolving, passes, detect2, detectAll2, detectLevels}
-use Rattle.protocol.proofs.Bounds.{last-below, detect2-joined, detect2-kept}
-use Rattle.frames.specs.Nodes.{IsNode, node}
+use Rattle.protocol.proofs.Bounds.{detect2-joined, detect2-kept}
+use Rattle.frames.specs.Nodes.{node}
 use Rattle.frames.proofs.Bounds.{Bounds}
-use Rattle.frames.proofs.Places.{at-mem}
 use Rattle.frames.proofs.Walk.{from, Tolerated, from-here, from-skip, from-end}
-
--- What the code has in hand at label number i of a level: its boards s and its last board e.
-pub record Seen (r : Record) (level i s e : ℕ) : Type 0 where
-  pub is-node : IsNode r level i s
-  pub end-is : e ≡ last (node r level i)
-  pub end-below : e < 8
-
-pub seen : (r : Record) → Bounds r → (level size i s e : ℕ) → size ≡ sizeWithin (r .plan .n) level → i < size
-    → s ≡ mask (labelWithin (r .plan .n) (r .plan .dealer) level i) → e ≡ last (labelWithin (r .plan .n) (r .plan .dealer) level i)
-    → Seen r level i s e
-seen r b level size i s e k l x y =
-    let n = r .plan .n in
-    let d = r .plan .dealer in
-    let w = label-within n d level i (b .most-boards) (b .dealer-below) in
-    let h : i < levelSize n level = omega (arith, k, size-within n level (b .some-board) (b .most-boards)) in
-    let z = y ∙ ap last w in
-    record {
-      is-node = (h, x ∙ ap mask w);
-      end-is = z;
-      end-below = omega (arith, z, last-below n d level (node r level i) (b .dealer-below) (at-mem n d level i (b .dealer-below) h), b .most-boards);
-    }
+use Rattle.detection.proofs.Seen.{Seen}
 
 -- Rule C at one node of the level.
 module _ (r : Record) (b : Bounds r) (cells : List ℕ) (level i s e : ℕ) (k : Seen r level i s e) (detected : ℕ) where
@@ -71,7 +48,7 @@ module _ (r : Record) (b : Bounds r) (cells : List ℕ) (level i s e : ℕ) (k :
         → rest (i + 1) (bitOr detected (1 * 2 ^ e % 256)) ≡ rest i detected
     unfolding join
     level-joined p =
-        ap (rest (i + 1)) (insert-byte detected e (k .end-below) ∙ ap (λ q. insert q detected) (k .end-is)
+        ap (rest (i + 1)) (insert-byte detected e (omega (arith, k .end-below, b .most-boards)) ∙ ap (λ q. insert q detected) (k .end-is)
         ∙ sym (detect2-joined (r .plan) (r .board) cells (node r level i) detected p))
         ∙ sym here
 

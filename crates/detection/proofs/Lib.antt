@@ -1,3 +1,4 @@
+pub mod Seen
 pub mod Masking
 pub mod Scanning
 pub mod Descending

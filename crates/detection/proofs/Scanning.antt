@@ -2,30 +2,29 @@
 -- Assumes nothing.
 use Prim.Native.Nat.{ℕ, zero, suc, _+_, _*_, _%_, _^_, _≤_, _<_}
 use mathlib.Core.Path.{_≡_, refl, sym, ap, ap₂, _∙_}
-use mathlib.Core.Bool.{true, false, not, _&&_}
+use mathlib.Core.Bool.{true, false}
 use mathlib.Core.List.{List, [], List·Memᴰ}
 use native.Mathlib.Omega.{arith}
 use lib.Bits.{bitOr}
 use lib.ListN.{length}
-use Rattle.sets.specs.Sets.{member, insert}
+use Rattle.sets.specs.Sets.{insert}
 use Rattle.sets.specs.Structure.{tolerated}
 use Rattle.plan.specs.Schedule.{listed}
 use Rattle.tree.specs.Labels.{Label, mask, last, labels, labelWithin}
 use Rattle.tree.specs.Places.{levelSize, sizeWithin}
 use Rattle.tree.proofs.Descent.{insert-byte}
 use Rattle.tree.proofs.Labels.{label-length}
-use Rattle.tree.proofs.Limits.{label-within}
 use Rattle.tree.proofs.Within.{size-within}
 use Rattle.protocol.specs.declared.records.Record.{Record}
 use Rattle.protocol.specs.Nodes.{nodes, inner}
 use Rattle.protocol.specs.Detection.{byCell, join, passes, Scan, maskBoard, detect1, detectAll1}
 use Rattle.protocol.specs.Rounds.{fill}
-use Rattle.protocol.proofs.Bounds.{last-below}
 use Rattle.frames.specs.Nodes.{IsNode, node, later}
 use Rattle.frames.proofs.Bounds.{Bounds}
 use Rattle.frames.proofs.Places.{at-mem}
 use Rattle.frames.proofs.Walk.{from, Tolerated, from-here, from-skip, from-end, inner-from}
-use Rattle.frames.proofs.Remaining.{level, is-node}
+use Rattle.frames.proofs.Remaining.{level}
+use Rattle.detection.proofs.Seen.{Seen, seen}
 use Rattle.detection.proofs.Masking.{mask-later}
 
 -- The list and the cells after the rule, with these to begin with.
@@ -69,27 +68,17 @@ module _ {r : Record} {size i s e : ℕ} (v : Visit r size i s e) where
   abbrev α : Label
   α = node r (level r) i
 
-  -- It is a node of the level, and its last board is a board.
-  pub visited : IsNode r (level r) i s
-  visited = is-node {q = e} {t = not (member e s) && tolerated (listed (r .plan)) s} (record {
-    bounded = b;
-    size-is = v .size-is;
-    inside = v .inside;
-    boards-are = v .boards-are;
-    test-is = refl;
-  })
+  pub seen-here : Seen r (level r) i s e
+  seen-here = seen r b (level r) size i s e (v .size-is) (v .inside) (v .boards-are) (v .last-is)
 
-  pub visited-last : e ≡ last (node r (level r) i)
-  visited-last = v .last-is ∙ ap last (label-within (r .plan .n) (r .plan .dealer) (level r) i (b .most-boards) (b .dealer-below))
+  abbrev visited : IsNode r (level r) i s
+  visited = seen-here .is-node
 
   tested : Tolerated (r .plan) α ≡ tolerated (listed (r .plan)) s
   tested = ap (tolerated (listed (r .plan))) (sym (visited .1))
 
   visited-label : List·Memᴰ α (labels (r .plan .n) (r .plan .dealer) (level r))
   visited-label = at-mem (r .plan .n) (r .plan .dealer) (level r) i (b .dealer-below) (visited .0)
-
-  pub visited-below : e < r .plan .n
-  visited-below = omega (arith, visited-last, last-below (r .plan .n) (r .plan .dealer) (level r) α (b .dealer-below) visited-label)
 
   module _ (detected : ℕ) (cells : List ℕ) where
     abbrev now : Scan
@@ -98,12 +87,12 @@ module _ {r : Record} {size i s e : ℕ} (v : Visit r size i s e) where
     -- What the code makes of the list and the cells when the last board joins.
     joined-list : join (last α) detected ≡ bitOr detected (1 * 2 ^ e % 256)
     unfolding join
-    joined-list = ap (λ q. insert q detected) (sym visited-last) ∙ sym (insert-byte detected e (omega (arith, visited-below, b .most-boards)))
+    joined-list = ap (λ q. insert q detected) (sym (seen-here .end-is)) ∙ sym (insert-byte detected e (omega (arith, (seen-here .end-below), b .most-boards)))
 
     joined-cells : maskBoard (r .plan) (last α) (nodes (r .plan) (r .board) (suc (length α))) cells ≡ fill (r .plan) e (later r e) [] cells
     joined-cells =
-        ap (λ q. maskBoard (r .plan) q (nodes (r .plan) (r .board) (suc (length α))) cells) (sym visited-last)
-        ∙ mask-later r e α cells visited-below (label-length (r .plan .n) (r .plan .dealer) (level r) α visited-label)
+        ap (λ q. maskBoard (r .plan) q (nodes (r .plan) (r .board) (suc (length α))) cells) (sym (seen-here .end-is))
+        ∙ mask-later r e α cells (seen-here .end-below) (label-length (r .plan .n) (r .plan .dealer) (level r) α visited-label)
         (some-level (r .plan .n) (level r) i (visited .0))
 
     -- The node is not internal.

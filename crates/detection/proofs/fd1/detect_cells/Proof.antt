@@ -8,7 +8,7 @@ use lib.ListN.{length}
 use borrow.Author.Needs.{needs}
 use Rattle.sets.proofs.Tests.{not-t, not-f}
 use Rattle.frames.proofs.Bounds.{bounds}
-use Rattle.detection.proofs.Scanning.{scan, scan-all, scan-end, Visit, visited, visited-last, visited-below, scan-skip, scan-pass, scan-join}
+use Rattle.detection.proofs.Scanning.{scan, scan-all, scan-end, Visit, seen-here, scan-skip, scan-pass, scan-join}
 use Rattle.detection.proofs.fd1.detect_cells.Statement.{statement}
 use Rattle.detection.proofs.fd1.detect_cells.Tie as tie
 
@@ -56,10 +56,10 @@ passes-cells-requires c κs =
     let l = c .before .before .before .before .before .loop in
     let t = c .before .before in
     let v = visit-of t in
-    ((w .0, omega (arith, w .1, l .inv .1)), visited v, visited-last v, sym (t .tolerates .ensures) ∙ c .before .if1 .taken)
+    ((w .0, omega (arith, w .1, l .inv .1)), seen-here v .is-node, seen-here v .end-is, sym (t .tolerates .ensures) ∙ c .before .if1 .taken)
 
 shl-detected : tie.Need-shl-detected Inv-loop μ-loop
-shl-detected c = let v = visit-of (c .before .before .before .before) in omega (arith, visited-below v, v .bounded .most-boards)
+shl-detected c = let v = visit-of (c .before .before .before .before) in omega (arith, seen-here v .end-below, v .bounded .most-boards)
 
 sub-fill-later : tie.Need-sub-fill-later Inv-loop μ-loop
 sub-fill-later c = search needs
@@ -74,7 +74,7 @@ fill-later-requires : tie.Need-fill-later-requires Inv-loop μ-loop
 fill-later-requires c κs =
     let w = c .before .before .before .before .before .before .before .before .before .before .before .before .before .before .before .pre in
     let l = c .before .before .before .before .before .before .before .before .before .before .loop in
-    ((w .0, omega (arith, w .1, l .inv .1)), visited-below (visit-of (c .before .before .before .before .before .before .before)))
+    ((w .0, omega (arith, w .1, l .inv .1)), seen-here (visit-of (c .before .before .before .before .before .before .before)) .end-below)
 
 add-index : tie.Need-add-index Inv-loop μ-loop
 add-index c = omega arith

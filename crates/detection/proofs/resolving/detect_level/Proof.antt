@@ -12,7 +12,8 @@ use Rattle.protocol.specs.Rounds.{close}
 use Rattle.protocol.specs.Detection.{detectAll2}
 use Rattle.frames.proofs.Bounds.{bounds}
 use Rattle.frames.proofs.Walk.{from, Tolerated, inner-from}
-use Rattle.detection.proofs.Level.{seen, level-skip, level-kept, level-joined, level-done}
+use Rattle.detection.proofs.Seen.{seen}
+use Rattle.detection.proofs.Level.{level-skip, level-kept, level-joined, level-done}
 use Rattle.detection.proofs.resolving.detect_level.Statement.{statement}
 use Rattle.detection.proofs.resolving.detect_level.Tie as tie
 
@@ -50,7 +51,7 @@ shl-detected c =
     let f = bounds a.r (w .0 .0) in
     let l = c .before .before .before .before .before .before .loop in
     let k = seen a.r f a.level (c .before .before .before .before .before .before .before .level-size .result) l.index (c .before .before .before .before .node-at .result .mask) (c .before .before .before .before .node-at .result .last) (c .before .before .before .before .before .before .before .level-size .ensures) (c .before .before .before .before .before .loop-test .taken) (c .before .before .before .before .node-at .ensures .0) (c .before .before .before .before .node-at .ensures .1) in
-    k .end-below
+    omega (arith, k .end-below, f .most-boards)
 
 add-index : tie.Need-add-index Inv-loop μ-loop
 add-index c = omega arith
