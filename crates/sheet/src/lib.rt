@@ -1,0 +1,2 @@
+// Reading a sheet.
+pub mod text;
