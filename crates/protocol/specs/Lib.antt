@@ -9,3 +9,4 @@ pub mod Playing
 pub mod Lists
 pub mod Claims
 pub mod Cases
+pub mod Example
