@@ -1,11 +1,11 @@
 // Beginning a board.
 use crate::cells::clear;
-use crate::judging::first_of;
 use crate::judging::judge_cells;
 use crate::judging::judge_number;
 use crate::judging::judge_plan;
 use plan::plan::Plan;
 use plan::refusal::Verdict;
+use plan::refusal::first_of;
 use plan::schedule::Round;
 use plan::schedule::Run;
 use protocol::answers::Begun;

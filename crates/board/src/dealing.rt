@@ -1,9 +1,9 @@
 // The dealer's frame.
-use crate::judging::first_of;
 use crate::judging::judge_plan;
 use plan::plan::Plan;
 use plan::refusal::Refusal;
 use plan::refusal::Verdict;
+use plan::refusal::first_of;
 use protocol::answers::Dealt;
 ghost use mathlib.Core.Path.{_≡_};
 ghost use mathlib.Core.Bool.{cond};

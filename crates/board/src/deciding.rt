@@ -1,8 +1,8 @@
 // Reading the decision.
-use crate::judging::first_of;
 use crate::judging::judge_record;
 use plan::refusal::Refusal;
 use plan::refusal::Verdict;
+use plan::refusal::first_of;
 use protocol::answers::Decision;
 use protocol::records::Record;
 ghost use mathlib.Core.Path.{_≡_};

@@ -2,6 +2,7 @@
 use plan::plan::Plan;
 use plan::refusal::Refusal;
 use plan::refusal::Verdict;
+use plan::refusal::first_of;
 use protocol::records::Record;
 use sets::boards::all_boards;
 use sets::boards::subset;
@@ -13,7 +14,7 @@ ghost use Prim.Native.Nat.{_≤_};
 ghost use lib.Dec.{ltb};
 ghost use lib.ListN.{length};
 ghost use Rattle.plan.specs.Outcome.{taken, refused, verdict};
-ghost use Rattle.plan.specs.Calls.{andThen, judged};
+ghost use Rattle.plan.specs.Calls.{judged};
 ghost use Rattle.tree.specs.Places.{countWithin};
 ghost use Rattle.protocol.specs.Rounds.{Board};
 ghost use Rattle.protocol.specs.Calls.{isTaken, judgeBoard, goodMarks, goodDecision, goodRecord, judgeRecord, judgeOpen};
@@ -67,16 +68,6 @@ pub fn judge_cells(plan: Plan, cells: &[u8]) -> Verdict
         return Verdict::Refused(Refusal::ShortCells);
     }
     Verdict::Accepted
-}
-
-// What is judged first, if it refuses; else the next.
-pub fn first_of(first: Verdict, next: Verdict) -> Verdict
-    ensures { λ v. ⌜ verdict v ≡ andThen (verdict first) (verdict next) ⌝ }
-{
-    match first {
-        Verdict::Accepted => next,
-        Verdict::Refused(why) => Verdict::Refused(why),
-    }
 }
 
 fn is_accepted(v: Verdict) -> bool

@@ -1,4 +1,8 @@
 // Why a call is turned down. `refusal` in specs/Outcome.antt sets out the number of each.
+ghost use mathlib.Core.Path.{_≡_};
+ghost use Rattle.plan.specs.Outcome.{verdict};
+ghost use Rattle.plan.specs.Calls.{andThen};
+
 pub enum Refusal {
     // n is 0 or above 7.
     Boards,
@@ -54,4 +58,14 @@ pub enum Refusal {
 pub enum Verdict {
     Accepted,
     Refused(Refusal),
+}
+
+// What is judged first, if it refuses; else the next.
+pub fn first_of(first: Verdict, next: Verdict) -> Verdict
+    ensures { λ v. ⌜ verdict v ≡ andThen (verdict first) (verdict next) ⌝ }
+{
+    match first {
+        Verdict::Accepted => next,
+        Verdict::Refused(why) => Verdict::Refused(why),
+    }
 }

@@ -1,7 +1,7 @@
 -- A line's digits and the bytes that they stand for, as the code reads them.
-use Prim.Native.Nat.{ℕ, _+_, _*_}
+use Prim.Native.Nat.{ℕ, zero, suc, _+_, _*_}
 use mathlib.Core.Bool.{Bool, true, false}
-use mathlib.Core.List.{List}
+use mathlib.Core.List.{List, [], _∷_}
 use mathlib.Core.Option.{Option, some, none, Option·getD}
 use lib.ListN.{getD}
 use Rattle.protocol.specs.Sheet.{digit, bytesOf}
@@ -26,3 +26,8 @@ byteOf (some h) (some l) = h * 16 + l
 -- Byte number k, from its two digits; 0 where one of them is missing.
 unfoldable pub byteAt : List ℕ → ℕ → ℕ
 byteAt line k = byteOf (digit (getD line (2 * k) 0)) (digit (getD line (2 * k + 1) 0))
+
+-- The k bytes from number i on.
+unfoldable pub bytesFrom : List ℕ → ℕ → ℕ → List ℕ
+bytesFrom line i zero = []
+bytesFrom line i (suc k) = byteAt line i ∷ bytesFrom line (suc i) k

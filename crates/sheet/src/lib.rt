@@ -1,2 +1,3 @@
 // Reading a sheet.
+pub mod head;
 pub mod text;

@@ -3,11 +3,10 @@
 use Prim.Native.Nat.{_-_}
 use mathlib.Core.Path.{sym, ap, _∙_}
 use borrow.Author.Needs.{needs}
 use Rattle.plan.specs.Outcome.{verdict}
 use Rattle.plan.proofs.Outcomes.{refusal-number, taken-first, refused-first}
-use Rattle.protocol.specs.Rounds.{close}
-use Rattle.board.proofs.judging.first_of.Statement.{statement}
-use Rattle.board.proofs.judging.first_of.Tie as tie
+use Rattle.plan.proofs.refusal.first_of.Statement.{statement}
+use Rattle.plan.proofs.refusal.first_of.Tie as tie
 
 enum-told : tie.Need-enum-told
 enum-told c = search needs
