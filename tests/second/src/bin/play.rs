@@ -1,0 +1,19 @@
+//! play [MISTAKE]   the bench as this crate has it: a sheet on standard input, printed lines out
+
+use second::{bench, bench_with, Mistake};
+use std::io::{Read, Write};
+
+fn main() {
+    let mut sheet = vec![];
+    std::io::stdin().read_to_end(&mut sheet).expect("a sheet");
+    let printed = match std::env::args().nth(1) {
+        None => bench(&sheet),
+        Some(name) => {
+            let named = Mistake::ALL.into_iter().find(|m| format!("{m:?}") == name);
+            bench_with(&sheet, named.expect("the name of a mistake"))
+        }
+    };
+    std::io::stdout()
+        .write_all(&printed)
+        .expect("an open output");
+}

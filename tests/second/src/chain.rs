@@ -1,0 +1,176 @@
+//! Adversaries that keep the roots of a cut tree unequal: along a chain of faulty boards
+//! every node is told differently to the boards on two sides.
+//!
+//! One healthy board, the pillar, lies in no listed set; the other healthy boards, the side,
+//! lie in a set without it. Faulty boards elsewhere tell what the pillar has.
+
+use crate::plan::{all, set_of, Plan, Set};
+use crate::prng::Prng;
+use crate::search::{sheet as sheet_of, Lies};
+use crate::sheet::Sheet;
+
+/// Who plays which part.
+struct Cast {
+    n: u8,
+    /// The faulty boards, the dealer first.
+    chain: Vec<u8>,
+    side: Vec<u8>,
+    pillar: u8,
+}
+
+impl Cast {
+    fn new(n: u8, faulty: usize, rng: &mut Prng) -> Cast {
+        let mut boards: Vec<u8> = (0..n).collect();
+        for i in 0..boards.len() {
+            boards.swap(i, rng.below(i + 1));
+        }
+        let side = boards.split_off(faulty);
+        Cast {
+            n,
+            chain: boards,
+            pillar: side[0],
+            side: side[1..].to_vec(),
+        }
+    }
+
+    fn faulty(&self) -> Set {
+        set_of(self.chain.iter().copied())
+    }
+
+    fn plan(&self, depth: u8, sets: Vec<Set>) -> Plan {
+        Plan {
+            n: self.n,
+            sets,
+            dealer: self.chain[0],
+            span: 2,
+            depth,
+        }
+    }
+
+    /// Lies to the side and to the pillar at the node of some chain places.
+    fn tell(&self, lies: &mut Lies, run: u8, node: &[usize], side: u8, pillar: u8) {
+        let label: Vec<u8> = node.iter().map(|i| self.chain[*i]).collect();
+        for board in &self.side {
+            lies.insert((run, label.clone(), *board), side);
+        }
+        lies.insert((run, label, self.pillar), pillar);
+    }
+}
+
+/// A sheet of this kind, at times spoilt a little.
+pub fn sheet(rng: &mut Prng) -> Sheet {
+    match rng.below(5) {
+        0 | 1 => deep(rng),
+        2 => single(6, 4, 4, rng),
+        3 => single(7, 4, 4 + rng.below(2), rng),
+        _ => single(7, 5, 5, rng),
+    }
+}
+
+/// Unequal after run 1: the sides' values alternate down the chain.
+/// At times the chain comes in a later run, when the roots are equal already.
+pub fn single(n: u8, depth: u8, faulty: usize, rng: &mut Prng) -> Sheet {
+    let cast = Cast::new(n, faulty, rng);
+    let sets = vec![cast.faulty(), set_of(cast.side.iter().copied())];
+    let plan = cast.plan(depth, sets);
+    let run = if rng.chance(1, 4) {
+        1 + rng.below(plan.runs()) as u8
+    } else {
+        1
+    };
+    let mut lies = Lies::new();
+    let last = depth as usize - 1;
+    let node: Vec<usize> = (0..=last).collect();
+    for i in 0..last {
+        cast.tell(
+            &mut lies,
+            run,
+            &node[..=i],
+            (i % 2) as u8,
+            ((i + 1) % 2) as u8,
+        );
+    }
+    let (v, w) = (((last - 1) % 2) as u8, (last % 2) as u8);
+    let swap = rng.chance(1, 2);
+    cast.tell(
+        &mut lies,
+        run,
+        &node,
+        if swap { w } else { v },
+        if swap { v } else { w },
+    );
+    finish(&cast, plan, lies, run, rng)
+}
+
+/// Unequal after runs 1 and 2: n = 7, b = 4, two boards must support a value of the side.
+pub fn deep(rng: &mut Prng) -> Sheet {
+    let mut cast = Cast::new(7, 5, rng);
+    if cast.chain[2] > cast.chain[3] {
+        cast.chain.swap(2, 3);
+    }
+    let mut lies = Lies::new();
+    let first: [(&[usize], u8, u8); 7] = [
+        (&[0], 0, 1),
+        (&[0, 1], 1, 0),
+        (&[0, 2], 0, 0),
+        (&[0, 1, 2], 0, 1),
+        (&[0, 1, 3], 1, 1),
+        (&[0, 1, 2, 3], 0, 1),
+        (&[0, 1, 2, 4], 0, 1),
+    ];
+    let second: [(&[usize], u8, u8); 4] = [
+        (&[0, 3], 1, 0),
+        (&[0, 3, 4], 1, 1),
+        (&[0, 3, 2], 0, 1),
+        (&[0, 3, 2, 4], 0, 1),
+    ];
+    first
+        .iter()
+        .for_each(|(node, s, p)| cast.tell(&mut lies, 1, node, *s, *p));
+    second
+        .iter()
+        .for_each(|(node, s, p)| cast.tell(&mut lies, 2, node, *s, *p));
+    let around = |x: &u8| set_of([cast.side[0], cast.chain[0], *x]);
+    let mut sets: Vec<Set> = cast.chain[1..].iter().map(around).collect();
+    sets.push(cast.faulty());
+    finish(&cast, cast.plan(4, sets), lies, 2, rng)
+}
+
+/// Shuffles the sets, at times spoils lies or sets, and plays.
+fn finish(cast: &Cast, mut plan: Plan, mut lies: Lies, last: u8, rng: &mut Prng) -> Sheet {
+    for i in 0..plan.sets.len() {
+        plan.sets.swap(i, rng.below(i + 1));
+    }
+    if rng.chance(1, 3) {
+        spoil_sets(cast, &mut plan, rng);
+    }
+    for _ in 0..rng.pick(&[0, 0, 1, 2, 4, 30]) {
+        spoil_lie(cast, &plan, &mut lies, last, rng);
+    }
+    let last = if rng.chance(1, 2) { last } else { 9 };
+    sheet_of(&plan, cast.faulty(), &lies, cast.pillar, last)
+}
+
+/// Adds a set around the side if the list is still accepted.
+fn spoil_sets(cast: &Cast, plan: &mut Plan, rng: &mut Prng) {
+    let side = set_of(cast.side.iter().copied());
+    let mut other = plan.clone();
+    other
+        .sets
+        .push(rng.byte() & rng.byte() & all(cast.n) & !set_of([cast.pillar]) | side);
+    if other.refusal().is_none() {
+        *plan = other;
+    }
+}
+
+/// Adds a random lie at a node within F.
+fn spoil_lie(cast: &Cast, plan: &Plan, lies: &mut Lies, last: u8, rng: &mut Prng) {
+    let mut rest = cast.chain[1..].to_vec();
+    let mut label = vec![cast.chain[0]];
+    for _ in 0..1 + rng.below(plan.depth as usize - 1) {
+        label.push(rest.swap_remove(rng.below(rest.len())));
+    }
+    let healthy: Vec<u8> = (0..cast.n).filter(|b| !cast.chain.contains(b)).collect();
+    let run = 1 + rng.below(last as usize + 1) as u8;
+    lies.insert((run, label, rng.pick(&healthy)), rng.below(2) as u8);
+}

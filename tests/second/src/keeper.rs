@@ -1,0 +1,230 @@
+//! One board that keeps cells: storing, rule G, conversion and rule C.
+
+use crate::mistake::Mistake;
+use crate::plan::{child, has, set_of, Label, Set, Tree};
+use std::collections::{BTreeMap, HashMap};
+
+#[derive(Clone)]
+pub struct Keeper {
+    pub board: u8,
+    pub list: Set,
+    pub cells: HashMap<Label, u8>,
+    /// What the nodes resolved to when the last run ended.
+    pub resolved: Resolved,
+    mistake: Option<Mistake>,
+}
+
+pub type Resolved = HashMap<Label, Option<u8>>;
+
+impl Keeper {
+    pub fn new(board: u8, mistake: Option<Mistake>) -> Keeper {
+        Keeper {
+            board,
+            list: 0,
+            cells: HashMap::new(),
+            resolved: HashMap::new(),
+            mistake,
+        }
+    }
+
+    fn makes(&self, mistake: Mistake) -> bool {
+        self.mistake == Some(mistake)
+    }
+
+    /// A cell read as a value.
+    pub fn value(&self, tree: &Tree, label: &[u8]) -> u8 {
+        let cell = self.cells[label];
+        if cell < tree.plan.span || self.makes(Mistake::RawRead) {
+            cell
+        } else {
+            0
+        }
+    }
+
+    /// What this board sends in a round.
+    pub fn frame(&self, tree: &Tree, round: usize) -> Vec<u8> {
+        let nodes = tree.reported(round, self.board);
+        nodes.iter().map(|label| self.value(tree, label)).collect()
+    }
+
+    /// Stores one sender's frame, or its absence.
+    pub fn store(&mut self, tree: &Tree, round: usize, sender: u8, frame: Option<&[u8]>) {
+        let nodes = tree.reported(round, sender);
+        let listed = has(self.list, sender) && !self.makes(Mistake::ListedFrameKept);
+        let values = match frame {
+            Some(frame) if !listed => self.accepted(tree, frame, nodes.len()),
+            _ => vec![0; nodes.len()],
+        };
+        for (label, value) in nodes.iter().zip(values) {
+            self.cells.insert(child(label, sender), value);
+        }
+    }
+
+    /// The values of a frame as they are stored.
+    fn accepted(&self, tree: &Tree, frame: &[u8], wanted: usize) -> Vec<u8> {
+        let mut values = frame.to_vec();
+        if values.len() != wanted && !self.makes(Mistake::MisfitTruncated) {
+            values.clear();
+        }
+        values.resize(wanted, 0);
+        let raw = self.makes(Mistake::RawStored) || self.makes(Mistake::RawRead);
+        for value in values.iter_mut().filter(|v| **v >= tree.plan.span && !raw) {
+            *value = 0;
+        }
+        values
+    }
+
+    /// The board's own children get its own cells.
+    fn copy_own(&mut self, tree: &Tree, round: usize) {
+        for label in tree.reported(round, self.board) {
+            let silent = self.makes(Mistake::OwnChildSilent);
+            let value = if silent { 0 } else { self.value(tree, &label) };
+            self.cells.insert(child(&label, self.board), value);
+        }
+    }
+
+    /// Closes a round after all frames were stored.
+    pub fn close(&mut self, tree: &Tree, round: usize) {
+        let skipped = round == tree.plan.rounds() && self.makes(Mistake::NoGInLastRound);
+        if round > 1 {
+            self.copy_own(tree, round);
+        }
+        if round > 1 && !skipped {
+            self.rule_g(tree, round);
+        }
+    }
+
+    fn rule_g(&mut self, tree: &Tree, round: usize) {
+        let mut nodes: Vec<&Label> = tree.internal_of(round - 1).collect();
+        if self.makes(Mistake::GReversed) {
+            nodes.reverse();
+        }
+        let before = self.list;
+        let mut looked_at: Set = 0;
+        for label in nodes {
+            let last = *label.last().unwrap();
+            let skipped = self.makes(Mistake::CachedVerdict) && has(looked_at, last);
+            looked_at |= set_of([last]);
+            let list = self.list_for(Mistake::GWithoutList, before);
+            let values = self.child_cells(tree, label);
+            if !has(self.list, last) && !skipped && !explained(tree, &values, list) {
+                self.list |= set_of([last]);
+                self.mask(tree, round, last);
+            }
+        }
+    }
+
+    /// The list that a rule joins to the children that differ.
+    fn list_for(&self, without: Mistake, before: Set) -> Set {
+        if self.makes(without) {
+            0
+        } else if self.makes(Mistake::ListFrozen) {
+            before
+        } else {
+            self.list
+        }
+    }
+
+    fn child_cells(&self, tree: &Tree, label: &[u8]) -> Vec<(u8, Option<u8>)> {
+        let value = |q| Some(self.value(tree, &child(label, q)));
+        tree.children(label).map(|q| (q, value(q))).collect()
+    }
+
+    /// Cells of this round's level that end in a board just listed become 0.
+    fn mask(&mut self, tree: &Tree, round: usize, last: u8) {
+        if self.makes(Mistake::NoMaskSameRound) {
+            return;
+        }
+        for label in tree.level(round).iter().filter(|l| l.last() == Some(&last)) {
+            self.cells.insert(label.clone(), 0);
+        }
+    }
+
+    /// Ends a run: resolves all nodes, applies rule C, keeps the root only.
+    pub fn convert(&mut self, tree: &Tree, run: usize) {
+        let resolved = self.resolve_all(tree);
+        let forgets = self.makes(Mistake::LastRunWithoutC)
+            || self.makes(Mistake::CutLastRunWithoutC) && tree.plan.cut();
+        if run < tree.plan.runs() || !forgets {
+            self.rule_c(tree, &resolved);
+        }
+        let root = vec![tree.plan.dealer];
+        let value = resolved[&root].unwrap_or(0);
+        self.cells = HashMap::from([(root, value)]);
+        self.resolved = resolved;
+        if self.makes(Mistake::ListCleared) && run < tree.plan.runs() {
+            self.list = 0;
+        }
+    }
+
+    fn resolve_all(&self, tree: &Tree) -> Resolved {
+        let mut resolved = Resolved::new();
+        for level in (1..=tree.plan.rounds()).rev() {
+            let mut by_last: BTreeMap<u8, Option<u8>> = BTreeMap::new();
+            for label in tree.level(level) {
+                let mut value = self.resolve(tree, label, &resolved);
+                if self.makes(Mistake::CachedValue) {
+                    value = *by_last.entry(*label.last().unwrap()).or_insert(value);
+                }
+                resolved.insert(label.clone(), value);
+            }
+        }
+        resolved
+    }
+
+    fn resolve(&self, tree: &Tree, label: &[u8], resolved: &Resolved) -> Option<u8> {
+        if !tree.internal(label) {
+            return Some(self.value(tree, label));
+        }
+        let values = child_values(tree, label, resolved);
+        let supported = |v: &u8| {
+            let same = values.iter().filter(|(_, value)| *value == Some(*v));
+            !tree.plan.tolerated(set_of(same.map(|(q, _)| *q)))
+        };
+        let mut fitting = (0..tree.plan.span).filter(supported);
+        let first = fitting.next();
+        let unique = self.makes(Mistake::FirstValueWins) || fitting.next().is_none();
+        let none = if self.makes(Mistake::NoneIsZero) {
+            Some(0)
+        } else {
+            None
+        };
+        first.filter(|_| unique).or(none)
+    }
+
+    fn rule_c(&mut self, tree: &Tree, resolved: &Resolved) {
+        let mut levels: Vec<usize> = (1..tree.plan.rounds()).rev().collect();
+        if self.makes(Mistake::CUpwards) {
+            levels.reverse();
+        }
+        let before = self.list;
+        for level in levels {
+            let mut nodes: Vec<&Label> = tree.internal_of(level).collect();
+            if self.makes(Mistake::CReversed) {
+                nodes.reverse();
+            }
+            for label in nodes {
+                let last = *label.last().unwrap();
+                let list = self.list_for(Mistake::CWithoutList, before);
+                let values = child_values(tree, label, resolved);
+                if !has(self.list, last) && !explained(tree, &values, list) {
+                    self.list |= set_of([last]);
+                }
+            }
+        }
+    }
+}
+
+fn child_values(tree: &Tree, label: &[u8], resolved: &Resolved) -> Vec<(u8, Option<u8>)> {
+    tree.children(label)
+        .map(|q| (q, resolved[&child(label, q)]))
+        .collect()
+}
+
+/// Whether some value leaves a tolerated set of children with another, joined with the list.
+fn explained(tree: &Tree, values: &[(u8, Option<u8>)], list: Set) -> bool {
+    (0..tree.plan.span).any(|v| {
+        let other = values.iter().filter(|(_, value)| *value != Some(v));
+        tree.plan.tolerated(set_of(other.map(|(q, _)| *q)) | list)
+    })
+}

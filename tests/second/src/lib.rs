@@ -1,0 +1,43 @@
+//! A second implementation of the bench, written from the paper by labels and maps.
+//! It is slow and plain on purpose. Sets of boards are bytes, everything else is looked up.
+
+pub mod chain;
+pub mod corpus;
+pub mod keeper;
+pub mod make;
+pub mod mistake;
+pub mod plan;
+pub mod prng;
+pub mod search;
+pub mod session;
+pub mod sheet;
+pub mod shrink;
+pub mod tally;
+
+pub use mistake::Mistake;
+pub use session::Outcome;
+pub use sheet::{Refusal, Sheet};
+
+/// All that the bench prints for a sheet.
+pub fn bench(sheet: &[u8]) -> Vec<u8> {
+    print(&play(sheet, None))
+}
+
+/// The same with one deliberate mistake.
+pub fn bench_with(sheet: &[u8], mistake: Mistake) -> Vec<u8> {
+    print(&play(sheet, Some(mistake)))
+}
+
+/// Reads a sheet and plays its session.
+pub fn play(sheet: &[u8], mistake: Option<Mistake>) -> Result<Outcome, Refusal> {
+    sheet::read(sheet).map(|s| session::play_sheet(&s, mistake))
+}
+
+/// The printed form of an outcome or a refusal.
+pub fn print(result: &Result<Outcome, Refusal>) -> Vec<u8> {
+    let text = match result {
+        Ok(outcome) => outcome.print(),
+        Err(refusal) => refusal.print(),
+    };
+    text.into_bytes()
+}

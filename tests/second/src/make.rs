@@ -1,0 +1,356 @@
+//! A maker of sheets: from a seed, good ones, damaged ones and nonsense.
+
+use crate::chain;
+use crate::plan::{admit, all, has, set_of, Label, Plan, Set};
+use crate::prng::Prng;
+use crate::session::{play, Adversary, Keepers};
+use crate::sheet::{write, Sheet, Slot, LONGEST};
+use std::collections::BTreeMap;
+
+/// The sheet of a seed.
+pub fn sheet(seed: u64) -> Vec<u8> {
+    let mut rng = Prng::new(seed);
+    match rng.below(1000) {
+        0..=2 => oversized(&mut rng),
+        3..=5 => vec![],
+        6..=9 => nonsense(&mut rng),
+        10..=79 => bad_head(&mut rng),
+        80..=279 => damaged(&mut rng),
+        280..=479 => chain::sheet(&mut rng).write(),
+        _ => good(&mut rng).write(),
+    }
+}
+
+/// A sheet that is accepted.
+pub fn good(rng: &mut Prng) -> Sheet {
+    let plan = plan(rng);
+    let faulty = faulty(&plan, rng);
+    let value = rng.below(plan.span as usize) as u8;
+    let mut liar = Liar::new(&plan, faulty, rng);
+    play(&plan, value, faulty, &mut liar, None);
+    let frames = liar.frames;
+    Sheet {
+        plan,
+        value,
+        faulty,
+        frames,
+    }
+}
+
+// Plans
+
+/// An accepted plan.
+fn plan(rng: &mut Prng) -> Plan {
+    let n = rng.pick(&[
+        1, 2, 3, 3, 4, 4, 4, 5, 5, 5, 5, 6, 6, 6, 6, 6, 6, 7, 7, 7, 7,
+    ]);
+    let sets = sets(n, rng);
+    let span = match rng.below(8) {
+        0 => 255,
+        1 => 2 + rng.below(254) as u8,
+        2 | 3 => 2,
+        4 => 16,
+        _ => 2 + rng.below(4) as u8,
+    };
+    let dealer = rng.below(n as usize) as u8;
+    let depth = rng.pick(&[0, 4, 4, 4, 5, 6, 7]);
+    Plan {
+        n,
+        sets,
+        dealer,
+        span,
+        depth,
+    }
+}
+
+/// A list of sets of which no three cover all boards.
+fn sets(n: u8, rng: &mut Prng) -> Vec<Set> {
+    let mut sets = match rng.below(8) {
+        0 | 1 => threshold(n),
+        2 => vec![all(n) & !set_of([rng.below(n as usize) as u8])],
+        3..=5 => two_sided(n, rng),
+        _ => vec![],
+    };
+    if admit(n, &sets).is_err() {
+        sets.clear();
+    }
+    let wanted = if rng.chance(1, 20) {
+        32
+    } else {
+        sets.len() + rng.below(6)
+    };
+    for _ in 0..60 {
+        let mut set = rng.byte() & all(n);
+        if rng.chance(1, 2) {
+            set &= rng.byte();
+        }
+        let mut longer = sets.clone();
+        longer.insert(rng.below(sets.len() + 1), set);
+        if longer.len() <= wanted.max(1) && admit(n, &longer).is_ok() {
+            sets = longer;
+        }
+    }
+    if sets.is_empty() {
+        vec![0]
+    } else {
+        sets
+    }
+}
+
+/// All sets of fewer than a third of the boards.
+fn threshold(n: u8) -> Vec<Set> {
+    let size = (n as u32 - 1) / 3;
+    (0..=all(n)).filter(|s| s.count_ones() == size).collect()
+}
+
+/// A large set, and sets around one board outside it: the shape that splits roots.
+fn two_sided(n: u8, rng: &mut Prng) -> Vec<Set> {
+    let (outside, never) = (rng.below(n as usize) as u8, rng.below(n as usize) as u8);
+    let large = all(n) & !set_of([outside, never]);
+    let mut sets = vec![large];
+    for _ in 0..rng.below(4) {
+        sets.push(rng.byte() & rng.byte() & large | set_of([outside]));
+    }
+    sets
+}
+
+/// A tolerated set of faulty boards, often a whole listed set.
+fn faulty(plan: &Plan, rng: &mut Prng) -> Set {
+    let sets = &plan.sets;
+    let holding: Vec<Set> = sets
+        .iter()
+        .copied()
+        .filter(|s| has(*s, plan.dealer))
+        .collect();
+    let set = if !holding.is_empty() && rng.chance(1, 2) {
+        rng.pick(&holding)
+    } else {
+        rng.pick(sets)
+    };
+    if rng.chance(5, 6) {
+        set
+    } else {
+        set & rng.byte()
+    }
+}
+
+// Lies
+
+/// Makes the frames of the faulty boards as they are asked for, and keeps them.
+struct Liar<'a> {
+    rng: &'a mut Prng,
+    plan: Plan,
+    faulty: Set,
+    frames: BTreeMap<Slot, Vec<u8>>,
+    /// Lies, out of 16 values, at nodes within F and elsewhere.
+    inside: usize,
+    outside: usize,
+    /// Out of 16 frames: missing, of another length, lies only to some receivers.
+    missing: usize,
+    misfit: usize,
+    /// Out of 16 lies: a value of m or more.
+    beyond: usize,
+    /// Receivers that are lied to, and the two values most lies use.
+    fooled: Set,
+    common: [u8; 2],
+    /// From this run on all is the truth.
+    until: u8,
+}
+
+impl<'a> Liar<'a> {
+    fn new(plan: &Plan, faulty: Set, rng: &'a mut Prng) -> Liar<'a> {
+        let common = [0, 1].map(|_| rng.below(plan.span as usize) as u8);
+        Liar {
+            plan: plan.clone(),
+            faulty,
+            frames: BTreeMap::new(),
+            inside: rng.pick(&[1, 4, 8, 8, 12, 16]),
+            outside: rng.pick(&[0, 0, 0, 0, 1, 4, 8]),
+            missing: rng.pick(&[0, 0, 0, 1, 4]),
+            misfit: rng.pick(&[0, 0, 0, 1, 4]),
+            beyond: rng.pick(&[0, 0, 1, 4]),
+            fooled: if rng.chance(1, 2) { !0 } else { rng.byte() },
+            common: if rng.chance(1, 2) { [0, 1] } else { common },
+            until: rng.pick(&[1, 2, 9, 9, 9]),
+            rng,
+        }
+    }
+
+    fn lie(&mut self) -> u8 {
+        let span = self.plan.span;
+        if self.rng.chance(self.beyond, 16) && span < 255 {
+            return span + self.rng.below(256 - span as usize) as u8;
+        }
+        if self.rng.chance(15, 16) {
+            self.rng.pick(&self.common)
+        } else {
+            self.rng.byte() % span
+        }
+    }
+
+    /// One value of a frame: the truth, as a healthy board has it, or a lie.
+    fn value(&mut self, slot: Slot, label: &[u8], keepers: &Keepers) -> u8 {
+        let within = label.iter().all(|b| has(self.faulty, *b));
+        let rate = if within { self.inside } else { self.outside };
+        let fooled = has(self.fooled, slot.receiver) && slot.run <= self.until;
+        if label.is_empty() || fooled && self.rng.chance(rate, 16) {
+            return self.lie();
+        }
+        let witness = if within {
+            slot.receiver
+        } else {
+            *keepers.keys().next().unwrap()
+        };
+        keepers[&witness].cells[label]
+    }
+
+    /// Makes a frame too short or too long.
+    fn bend(&mut self, frame: &mut Vec<u8>) {
+        if self.rng.chance(1, 2) {
+            frame.truncate(self.rng.below(frame.len()));
+        } else {
+            for _ in 0..1 + self.rng.below(3) {
+                frame.push(self.rng.byte());
+            }
+        }
+    }
+}
+
+impl Adversary for Liar<'_> {
+    fn frame(&mut self, slot: Slot, nodes: &[Label], keepers: &Keepers) -> Option<Vec<u8>> {
+        if self.rng.chance(self.missing, 16) {
+            return None;
+        }
+        let mut frame: Vec<u8> = nodes.iter().map(|l| self.value(slot, l, keepers)).collect();
+        if self.rng.chance(self.misfit, 16) {
+            self.bend(&mut frame);
+        }
+        self.frames.insert(slot, frame.clone());
+        Some(frame)
+    }
+}
+
+// Damage
+
+/// A sheet whose head meets one of 22, 1 to 8, 18 and 23, or more than one.
+fn bad_head(rng: &mut Prng) -> Vec<u8> {
+    let sheet = good(rng);
+    let mut lines = sheet.lines();
+    for _ in 0..rng.pick(&[1, 1, 1, 2, 3]) {
+        hurt_head(&mut lines[0], &sheet.plan, rng);
+    }
+    let mut text = write(&lines);
+    if rng.chance(1, 8) {
+        hurt_text(&mut text, rng);
+    }
+    text
+}
+
+fn hurt_head(head: &mut Vec<u8>, plan: &Plan, rng: &mut Prng) {
+    let last = head.len() - 1;
+    match rng.below(13) {
+        0 => head[0] = rng.pick(&[0, 8, 9, 255]),
+        1 if last > 1 => head[1] = rng.pick(&[0, 1]),
+        2 if last > 2 => head[2] = plan.n + rng.below(3) as u8,
+        3 if last > 3 => head[3] = rng.pick(&[1, 2, 3, 8, 9, 128, 132, 255]),
+        4 if last > 4 => head[4] = head[1].saturating_add(rng.below(3) as u8),
+        5 => swap_sets(head, &[]),
+        6 => swap_sets(head, &vec![0; 33 + rng.below(3)]),
+        7 => swap_sets(head, &vec![rng.byte(); 1 + rng.below(3)]),
+        8 => swap_sets(
+            head,
+            &[
+                rng.byte() & all(plan.n),
+                rng.byte() & all(plan.n),
+                all(plan.n) >> 1,
+            ],
+        ),
+        9 => head[last] = rng.byte() & all(plan.n),
+        10 => head[last] = rng.byte(),
+        11 => head.truncate(rng.below(head.len() + 1).max(1)),
+        _ => head.push(rng.byte()),
+    }
+}
+
+/// Gives a head other sets.
+fn swap_sets(head: &mut Vec<u8>, sets: &[Set]) {
+    if head.len() >= 7 {
+        let faulty = head[head.len() - 1];
+        head.truncate(5);
+        head.push(sets.len() as u8);
+        head.extend(sets);
+        head.push(faulty);
+    }
+}
+
+/// A good sheet with damaged frame lines or text.
+fn damaged(rng: &mut Prng) -> Vec<u8> {
+    let sheet = good(rng);
+    let mut lines = sheet.lines();
+    for _ in 0..rng.pick(&[0, 1, 1, 1, 2]) {
+        hurt_lines(&mut lines, rng);
+    }
+    let mut text = write(&lines);
+    if rng.chance(1, 3) {
+        hurt_text(&mut text, rng);
+    }
+    text
+}
+
+fn hurt_lines(lines: &mut Vec<Vec<u8>>, rng: &mut Prng) {
+    let place = 1 + rng.below(lines.len());
+    if place >= lines.len() {
+        lines.push((0..rng.below(7)).map(|_| rng.below(5) as u8).collect());
+        return;
+    }
+    let byte = rng.below(4);
+    match rng.below(8) {
+        0 => lines[place].truncate(rng.below(5)),
+        1 => lines.insert(place, lines[place].clone()),
+        2 => lines.swap(place, 1),
+        3 => lines.insert(place, vec![]),
+        4 => drop(lines.remove(place)),
+        5 if lines[place].len() > 3 => lines[place][byte] = rng.byte(),
+        _ if lines[place].len() > 3 => lines[place][byte] = rng.below(8) as u8,
+        _ => lines[place].push(rng.byte()),
+    }
+}
+
+/// Damages the text itself: characters, digits, newlines.
+fn hurt_text(text: &mut Vec<u8>, rng: &mut Prng) {
+    let place = rng.below(text.len());
+    match rng.below(9) {
+        0 => drop(text.pop()),
+        1 => text.push(b'\n'),
+        2 => drop(text.remove(place)),
+        3 => text.insert(place, rng.pick(b"0123456789ABCDEF")),
+        4 => text[place] = rng.pick(b"gG/:@`af \t\r\0\xFF"),
+        5 => text.insert(place, b'\n'),
+        6 => text.make_ascii_lowercase(),
+        7 => {
+            *text = String::from_utf8_lossy(text)
+                .replace('\n', "\r\n")
+                .into_bytes()
+        }
+        _ => text.truncate(place),
+    }
+}
+
+fn nonsense(rng: &mut Prng) -> Vec<u8> {
+    let length = rng.below(40);
+    (0..length)
+        .map(|_| rng.pick(b"0000111123456789ABCDEF\n\n\n"))
+        .collect()
+}
+
+/// A sheet of about the greatest length, filled up by an overlong frame or by newlines.
+fn oversized(rng: &mut Prng) -> Vec<u8> {
+    let mut text = good(rng).write();
+    let wanted = LONGEST - 2 + rng.below(5);
+    let ending = text.pop();
+    while text.len() + 1 < wanted {
+        text.push(if rng.chance(1, 100_000) { b'\n' } else { b'0' });
+    }
+    text.extend(ending);
+    text
+}

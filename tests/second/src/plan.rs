@@ -1,0 +1,199 @@
+//! Structures, plans and the tree of labels.
+
+/// A node's boards from the dealer on. The empty label stands above the root.
+pub type Label = Vec<u8>;
+
+/// A set of boards; bit i means board i.
+pub type Set = u8;
+
+pub fn has(set: Set, board: u8) -> bool {
+    board < 8 && set >> board & 1 == 1
+}
+
+pub fn set_of(boards: impl IntoIterator<Item = u8>) -> Set {
+    boards.into_iter().fold(0, |set, b| set | 1 << b)
+}
+
+/// All boards below n.
+pub fn all(n: u8) -> Set {
+    set_of(0..n)
+}
+
+pub fn child(label: &[u8], board: u8) -> Label {
+    let mut longer = label.to_vec();
+    longer.push(board);
+    longer
+}
+
+#[derive(Clone, Debug, PartialEq, Eq)]
+pub struct Plan {
+    pub n: u8,
+    pub sets: Vec<Set>,
+    pub dealer: u8,
+    pub span: u8,
+    pub depth: u8,
+}
+
+impl Plan {
+    /// The number under which a plan is turned down, if it is.
+    pub fn refusal(&self) -> Option<u8> {
+        admit(self.n, &self.sets).err().or({
+            if self.dealer >= self.n {
+                Some(6)
+            } else if self.span < 2 {
+                Some(7)
+            } else if matches!(self.depth, 1..=3) || self.depth > 7 {
+                Some(8)
+            } else {
+                None
+            }
+        })
+    }
+
+    pub fn tolerated(&self, set: Set) -> bool {
+        set == 0 || self.sets.iter().any(|s| set & !s == 0)
+    }
+
+    /// H: the levels of the whole tree.
+    pub fn height(&self) -> usize {
+        let holding = self.sets.iter().filter(|s| has(**s, self.dealer));
+        1 + holding.map(|s| s.count_ones() as usize).max().unwrap_or(0)
+    }
+
+    pub fn cut(&self) -> bool {
+        self.depth != 0 && self.height() > self.depth as usize
+    }
+
+    /// R: the levels that are played.
+    pub fn rounds(&self) -> usize {
+        if self.cut() {
+            self.depth as usize
+        } else {
+            self.height()
+        }
+    }
+
+    pub fn runs(&self) -> usize {
+        if !self.cut() {
+            return 1;
+        }
+        let (left, step) = (self.n as usize - 3, self.depth as usize - 3);
+        left.div_ceil(step) + 1
+    }
+
+    /// The first round of a run.
+    pub fn first_round(run: usize) -> usize {
+        if run == 1 {
+            1
+        } else {
+            2
+        }
+    }
+}
+
+/// Judges a list of sets; 5 comes without its places, which `first_cover` gives.
+pub fn admit(n: u8, sets: &[Set]) -> Result<(), u8> {
+    if n == 0 || n > 7 {
+        Err(1)
+    } else if sets.is_empty() {
+        Err(2)
+    } else if sets.len() > 32 {
+        Err(3)
+    } else if sets.iter().any(|s| s & !all(n) != 0) {
+        Err(4)
+    } else if first_cover(n, sets).is_some() {
+        Err(5)
+    } else {
+        Ok(())
+    }
+}
+
+/// The places of the first three sets that cover all boards.
+pub fn first_cover(n: u8, sets: &[Set]) -> Option<(usize, usize, usize)> {
+    for i in 0..sets.len() {
+        for j in i..sets.len() {
+            for k in j..sets.len() {
+                if sets[i] | sets[j] | sets[k] == all(n) {
+                    return Some((i, j, k));
+                }
+            }
+        }
+    }
+    None
+}
+
+/// The labels of a plan, level by level, each level in rising order.
+pub struct Tree {
+    pub plan: Plan,
+    levels: Vec<Vec<Label>>,
+}
+
+impl Tree {
+    pub fn new(plan: &Plan) -> Tree {
+        let mut tree = Tree {
+            plan: plan.clone(),
+            levels: vec![vec![vec![plan.dealer]]],
+        };
+        for level in 1..plan.rounds() {
+            let mut next: Vec<Label> = Vec::new();
+            for label in tree.internal_of(level) {
+                next.extend(tree.children(label).map(|q| child(label, q)));
+            }
+            next.sort();
+            tree.levels.push(next);
+        }
+        tree
+    }
+
+    /// All nodes of a level, in cell order.
+    pub fn level(&self, level: usize) -> &[Label] {
+        &self.levels[level - 1]
+    }
+
+    pub fn nodes(&self) -> usize {
+        self.levels.iter().map(Vec::len).sum()
+    }
+
+    pub fn internal(&self, label: &[u8]) -> bool {
+        label.len() < self.plan.rounds() && self.plan.tolerated(set_of(label.iter().copied()))
+    }
+
+    pub fn internal_of(&self, level: usize) -> impl DoubleEndedIterator<Item = &Label> {
+        self.level(level)
+            .iter()
+            .filter(|label| self.internal(label))
+    }
+
+    /// The boards that give a node its children.
+    pub fn children<'a>(&'a self, label: &'a [u8]) -> impl Iterator<Item = u8> + 'a {
+        (0..self.plan.n).filter(move |q| !label.contains(q))
+    }
+
+    /// The nodes that a sender's frame of a round reports, in frame order.
+    /// The dealer's frame of round 1 reports the empty label.
+    pub fn reported(&self, round: usize, sender: u8) -> Vec<Label> {
+        if round == 1 {
+            return if sender == self.plan.dealer {
+                vec![vec![]]
+            } else {
+                vec![]
+            };
+        }
+        if round > self.plan.rounds() {
+            return vec![];
+        }
+        let nodes = self.internal_of(round - 1);
+        nodes
+            .filter(|label| !label.contains(&sender))
+            .cloned()
+            .collect()
+    }
+
+    /// Whether a frame is due in this run and round between these boards.
+    pub fn due(&self, run: usize, round: usize, sender: u8, receiver: u8) -> bool {
+        let known = (1..=self.plan.runs()).contains(&run) && round >= Plan::first_round(run);
+        let boards = sender < self.plan.n && receiver < self.plan.n;
+        let keeps = receiver != sender && receiver != self.plan.dealer;
+        known && boards && keeps && !self.reported(round, sender).is_empty()
+    }
+}

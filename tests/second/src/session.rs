@@ -1,0 +1,141 @@
+//! A whole session, all boards in step.
+
+use crate::keeper::Keeper;
+use crate::mistake::Mistake;
+use crate::plan::{has, Label, Plan, Set, Tree};
+use crate::sheet::{Sheet, Slot};
+use std::collections::BTreeMap;
+
+pub type Keepers = BTreeMap<u8, Keeper>;
+
+/// Gives the frames of the faulty boards.
+pub trait Adversary {
+    /// The frame for a slot; `nodes` are the labels it reports, in order.
+    fn frame(&mut self, slot: Slot, nodes: &[Label], keepers: &Keepers) -> Option<Vec<u8>>;
+
+    /// Called when all keepers have converted; false ends the session early.
+    fn converted(&mut self, _tree: &Tree, _keepers: &Keepers) -> bool {
+        true
+    }
+}
+
+/// A sheet's lines are an adversary.
+impl Adversary for &BTreeMap<Slot, Vec<u8>> {
+    fn frame(&mut self, slot: Slot, _: &[Label], _: &Keepers) -> Option<Vec<u8>> {
+        self.get(&slot).cloned()
+    }
+}
+
+pub struct Outcome {
+    pub plan: Plan,
+    /// Board, decision and list of each healthy board.
+    pub decided: Vec<(u8, u8, Set)>,
+    /// The roots of all healthy keepers after each run.
+    pub roots: Vec<Vec<u8>>,
+    /// Their lists after each run.
+    pub lists: Vec<Vec<Set>>,
+}
+
+impl Outcome {
+    pub fn print(&self) -> String {
+        let line = |(b, v, l): &(u8, u8, Set)| format!("{b:02X}{v:02X}{l:02X}\n");
+        self.decided.iter().map(line).collect()
+    }
+
+    /// Whether the roots differ after a run, counted from 1.
+    pub fn unequal_after(&self, run: usize) -> bool {
+        let roots = self.roots.get(run - 1);
+        roots.is_some_and(|r| r.windows(2).any(|pair| pair[0] != pair[1]))
+    }
+}
+
+pub fn play_sheet(sheet: &Sheet, mistake: Option<Mistake>) -> Outcome {
+    play(
+        &sheet.plan,
+        sheet.value,
+        sheet.faulty,
+        &mut &sheet.frames,
+        mistake,
+    )
+}
+
+/// Plays a session against an adversary.
+pub fn play(
+    plan: &Plan,
+    value: u8,
+    faulty: Set,
+    adversary: &mut dyn Adversary,
+    mistake: Option<Mistake>,
+) -> Outcome {
+    let tree = Tree::new(plan);
+    let healthy: Vec<u8> = (0..plan.n).filter(|b| !has(faulty, *b)).collect();
+    let keeping = healthy.iter().filter(|b| **b != plan.dealer);
+    let mut keepers: Keepers = keeping.map(|b| (*b, Keeper::new(*b, mistake))).collect();
+    let (mut roots, mut lists) = (vec![], vec![]);
+    for run in 1..=plan.runs() {
+        for round in Plan::first_round(run)..=plan.rounds() {
+            exchange(&tree, value, faulty, run, round, &mut keepers, adversary);
+        }
+        keepers.values_mut().for_each(|k| k.convert(&tree, run));
+        roots.push(
+            keepers
+                .values()
+                .map(|k| k.cells[&vec![plan.dealer]])
+                .collect(),
+        );
+        lists.push(keepers.values().map(|k| k.list).collect());
+        if !adversary.converted(&tree, &keepers) {
+            break;
+        }
+    }
+    let decide = |b: &u8| match keepers.get(b) {
+        Some(k) => (*b, k.value(&tree, &[plan.dealer]), k.list),
+        None => (*b, value, 0),
+    };
+    Outcome {
+        plan: plan.clone(),
+        decided: healthy.iter().map(decide).collect(),
+        roots,
+        lists,
+    }
+}
+
+/// One round: all frames are made, then stored, then every keeper closes.
+fn exchange(
+    tree: &Tree,
+    value: u8,
+    faulty: Set,
+    run: usize,
+    round: usize,
+    keepers: &mut Keepers,
+    adversary: &mut dyn Adversary,
+) {
+    let mut frames: Vec<(u8, u8, Option<Vec<u8>>)> = vec![];
+    for sender in 0..tree.plan.n {
+        let nodes = tree.reported(round, sender);
+        for receiver in keepers.keys().copied() {
+            if receiver == sender || nodes.is_empty() {
+                continue;
+            }
+            let slot = Slot {
+                run: run as u8,
+                round: round as u8,
+                sender,
+                receiver,
+            };
+            let frame = if has(faulty, sender) {
+                adversary.frame(slot, &nodes, keepers)
+            } else if sender == tree.plan.dealer {
+                Some(vec![value])
+            } else {
+                Some(keepers[&sender].frame(tree, round))
+            };
+            frames.push((sender, receiver, frame));
+        }
+    }
+    for (sender, receiver, frame) in frames {
+        let keeper = keepers.get_mut(&receiver).unwrap();
+        keeper.store(tree, round, sender, frame.as_deref());
+    }
+    keepers.values_mut().for_each(|k| k.close(tree, round));
+}

@@ -1,0 +1,180 @@
+//! Reading a sheet, line by line, with its refusals.
+
+use crate::plan::{all, has, Plan, Set, Tree};
+use std::collections::BTreeMap;
+
+pub const LONGEST: usize = 65_536;
+
+/// When and between whom a frame goes.
+#[derive(Clone, Copy, Debug, PartialEq, Eq, PartialOrd, Ord)]
+pub struct Slot {
+    pub run: u8,
+    pub round: u8,
+    pub sender: u8,
+    pub receiver: u8,
+}
+
+#[derive(Clone, Debug)]
+pub struct Sheet {
+    pub plan: Plan,
+    pub value: u8,
+    pub faulty: Set,
+    pub frames: BTreeMap<Slot, Vec<u8>>,
+}
+
+#[derive(Clone, Copy, Debug, PartialEq, Eq)]
+pub struct Refusal {
+    pub number: u8,
+    pub line: usize,
+}
+
+impl Refusal {
+    pub fn print(&self) -> String {
+        format!("FF{:02X}{:04X}\n", self.number, self.line)
+    }
+}
+
+pub fn read(text: &[u8]) -> Result<Sheet, Refusal> {
+    if text.len() > LONGEST {
+        return Err(Refusal {
+            number: 20,
+            line: 0,
+        });
+    }
+    let mut lines = lines(text).into_iter().enumerate();
+    let at = |line: usize| {
+        move |number: u8| Refusal {
+            number,
+            line: line + 1,
+        }
+    };
+    let first = lines.next().map_or(Err(22), |(_, line)| digits(line));
+    let mut sheet = first.and_then(|bytes| head(&bytes)).map_err(at(0))?;
+    let tree = Tree::new(&sheet.plan);
+    for (place, line) in lines {
+        let bytes = digits(line).map_err(at(place))?;
+        let (slot, values) = frame(&sheet, &tree, &bytes).ok_or(24).map_err(at(place))?;
+        sheet.frames.insert(slot, values);
+    }
+    Ok(sheet)
+}
+
+/// The lines with their newlines; text after the last newline is a line too.
+fn lines(text: &[u8]) -> Vec<&[u8]> {
+    text.split_inclusive(|c| *c == b'\n').collect()
+}
+
+/// The bytes of a line, or 21.
+fn digits(line: &[u8]) -> Result<Vec<u8>, u8> {
+    let line = line.strip_suffix(b"\n").ok_or(21)?;
+    if line.len() % 2 != 0 {
+        return Err(21);
+    }
+    line.chunks(2)
+        .map(|pair| Ok(digit(pair[0])? * 16 + digit(pair[1])?))
+        .collect()
+}
+
+fn digit(c: u8) -> Result<u8, u8> {
+    match c {
+        b'0'..=b'9' => Ok(c - b'0'),
+        b'A'..=b'F' => Ok(c - b'A' + 10),
+        _ => Err(21),
+    }
+}
+
+/// The head: n, m, d, b, the dealer's value, s, the sets, F.
+fn head(bytes: &[u8]) -> Result<Sheet, u8> {
+    if bytes.len() < 7 || bytes.len() != 7 + bytes[5] as usize {
+        return Err(22);
+    }
+    let (n, span, dealer, depth, value) = (bytes[0], bytes[1], bytes[2], bytes[3], bytes[4]);
+    let sets = bytes[6..bytes.len() - 1].to_vec();
+    let faulty = bytes[bytes.len() - 1];
+    let plan = Plan {
+        n,
+        sets,
+        dealer,
+        span,
+        depth,
+    };
+    if let Some(number) = plan.refusal() {
+        return Err(number);
+    }
+    if value >= span {
+        return Err(18);
+    }
+    if faulty & !all(n) != 0 || !plan.tolerated(faulty) {
+        return Err(23);
+    }
+    Ok(Sheet {
+        plan,
+        value,
+        faulty,
+        frames: BTreeMap::new(),
+    })
+}
+
+/// A frame line's slot and values, or nothing if it meets 24.
+fn frame(sheet: &Sheet, tree: &Tree, bytes: &[u8]) -> Option<(Slot, Vec<u8>)> {
+    if bytes.len() < 4 {
+        return None;
+    }
+    let (run, round, sender, receiver) = (bytes[0], bytes[1], bytes[2], bytes[3]);
+    let slot = Slot {
+        run,
+        round,
+        sender,
+        receiver,
+    };
+    let rising = sheet
+        .frames
+        .last_key_value()
+        .is_none_or(|(before, _)| *before < slot);
+    let boards = has(sheet.faulty, sender) && !has(sheet.faulty, receiver);
+    let due = tree.due(run as usize, round as usize, sender, receiver);
+    (rising && boards && due).then(|| (slot, bytes[4..].to_vec()))
+}
+
+impl Sheet {
+    /// The head's bytes.
+    pub fn head(&self) -> Vec<u8> {
+        let p = &self.plan;
+        let mut bytes = vec![
+            p.n,
+            p.span,
+            p.dealer,
+            p.depth,
+            self.value,
+            p.sets.len() as u8,
+        ];
+        bytes.extend(&p.sets);
+        bytes.push(self.faulty);
+        bytes
+    }
+
+    /// The lines as bytes, the head first.
+    pub fn lines(&self) -> Vec<Vec<u8>> {
+        let mut lines = vec![self.head()];
+        for (slot, values) in &self.frames {
+            let mut line = vec![slot.run, slot.round, slot.sender, slot.receiver];
+            line.extend(values);
+            lines.push(line);
+        }
+        lines
+    }
+
+    pub fn write(&self) -> Vec<u8> {
+        write(&self.lines())
+    }
+}
+
+/// Lines as hexadecimal text.
+pub fn write(lines: &[Vec<u8>]) -> Vec<u8> {
+    let mut text = String::new();
+    for line in lines {
+        line.iter().for_each(|byte| text += &format!("{byte:02X}"));
+        text.push('\n');
+    }
+    text.into_bytes()
+}

@@ -1,0 +1,128 @@
+//! Cases 1 to 10 of the paper, as sheets where they are sheets.
+
+use second::bench;
+use second::plan::{admit, first_cover, Plan, Tree};
+
+fn plan(n: u8, sets: &[u8], dealer: u8, depth: u8) -> Plan {
+    Plan {
+        n,
+        sets: sets.to_vec(),
+        dealer,
+        span: 16,
+        depth,
+    }
+}
+
+fn prints(sheet: &str, printed: &str) {
+    assert_eq!(
+        String::from_utf8(bench(sheet.as_bytes())).unwrap(),
+        printed,
+        "{sheet}"
+    );
+}
+
+#[test]
+fn case_1_three_sets_cover() {
+    assert_eq!(admit(3, &[1, 2, 4]), Err(5));
+    assert_eq!(first_cover(3, &[1, 2, 4]), Some((0, 1, 2)));
+    prints("03100000050301020400\n", "FF050001\n");
+}
+
+#[test]
+fn case_2_admitted() {
+    assert_eq!(admit(4, &[1, 2, 4, 8]), Ok(()));
+}
+
+#[test]
+fn case_3_example_of_the_source() {
+    let sets = [0x07, 0x09, 0x12, 0x22, 0x0C];
+    assert_eq!(admit(6, &sets), Ok(()));
+    let tree = Tree::new(&plan(6, &sets, 0, 0));
+    assert_eq!((tree.plan.height(), tree.nodes()), (4, 24));
+    assert_eq!(plan(6, &sets, 4, 0).height(), 3);
+}
+
+#[test]
+fn case_4_one_board() {
+    assert_eq!(admit(1, &[0]), Ok(()));
+    assert_eq!(
+        (admit(1, &[1]), first_cover(1, &[1])),
+        (Err(5), Some((0, 0, 0)))
+    );
+    prints("0110000005010000\n", "000500\n");
+    prints("0110000005010100\n", "FF050001\n");
+}
+
+#[test]
+fn case_5_runs_and_rounds() {
+    let counts = |depth| {
+        let plan = plan(7, &[0x3F], 0, depth);
+        let later = (plan.runs() - 1) * (plan.rounds() - 1);
+        (plan.height(), plan.runs(), plan.rounds() + later)
+    };
+    assert_eq!(counts(4), (7, 5, 16));
+    assert_eq!(counts(5), (7, 3, 13));
+    assert_eq!((counts(0), counts(7)), ((7, 1, 7), (7, 1, 7)));
+    assert_eq!(plan(7, &[0x3F], 0, 3).refusal(), Some(8));
+    prints("0710000305013F00\n", "FF080001\n");
+}
+
+#[test]
+fn case_6_root_is_a_leaf() {
+    let plan = plan(7, &[0x3F], 6, 0);
+    assert_eq!((plan.height(), plan.runs(), plan.rounds()), (1, 1, 1));
+    prints("0710060005013F3F\n", "060500\n");
+    prints("0710060005013F3F\n0102000605\n", "FF180002\n");
+}
+
+#[test]
+fn case_7_faulty_dealer() {
+    let sheet = "0410000005040102040801\n0101000105\n0101000205\n0101000307\n";
+    prints(sheet, "010500\n020500\n030500\n");
+}
+
+#[test]
+fn case_8_dealer_is_listed() {
+    let sheet = "0410000005040102040801\n0101000105\n0101000207\n0101000309\n";
+    prints(sheet, "010001\n020001\n030001\n");
+}
+
+#[test]
+fn case_9_faulty_board() {
+    prints(
+        "0410000005040102040808\n0102030109\n",
+        "000500\n010500\n020500\n",
+    );
+}
+
+#[test]
+fn case_10_span() {
+    let sheet = |value: &str| {
+        let lines = [1, 2, 3].map(|i| format!("010100{i:02X}{value}\n"));
+        format!("0410000005040102040801\n{}", lines.concat())
+    };
+    prints(&sheet("0F"), "010F00\n020F00\n030F00\n");
+    prints(&sheet("10"), "010000\n020000\n030000\n");
+}
+
+#[test]
+fn refusals_and_lines() {
+    let head = "0410000005040102040801\n";
+    let with = |rest: &str| format!("{head}{rest}");
+    prints("", "FF160001\n");
+    prints("\n", "FF160001\n");
+    prints("0", "FF150001\n");
+    prints(&with("\n"), "FF180002\n");
+    prints(&with("0101000105"), "FF150002\n");
+    prints(&with("0101000105\n0101000105\n"), "FF180003\n");
+    prints(&with("01010001\n"), "010000\n020000\n030000\n");
+    prints(&with("0201000105\n"), "FF180002\n");
+    prints(&with("0101010205\n"), "FF180002\n");
+    prints(&with("0101000005\n"), "FF180002\n");
+    prints("0010000005040102040801\n0\n", "FF010001\n");
+    prints("0010000005050102040801\n", "FF160001\n");
+    prints("0410000010040102040810\n", "FF120001\n");
+    prints("0410000005040102040803\n", "FF170001\n");
+    prints(&"0".repeat(65_537), "FF140000\n");
+    prints(&"0".repeat(65_536), "FF150001\n");
+}

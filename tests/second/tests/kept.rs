@@ -1,0 +1,69 @@
+//! The corpus shows what it is kept for, and made sheets keep the promises.
+
+use second::plan::has;
+use second::tally::{Tally, NUMBERS, SPLITS};
+use second::{bench_with, corpus, make, play, print, sheet, Mistake};
+
+#[test]
+fn corpus_tells_every_mistake() {
+    for mistake in Mistake::ALL {
+        let shown = corpus::load()
+            .iter()
+            .any(|(_, s)| bench_with(s, mistake) != second::bench(s));
+        assert_eq!(shown, !mistake.hidden(), "{mistake:?}");
+    }
+}
+
+#[test]
+fn corpus_names_hold() {
+    for (name, text) in corpus::load() {
+        let result = play(&text, None);
+        if let Some(number) = name.strip_prefix("refusal-") {
+            assert_eq!(
+                result.err().map(|r| r.number),
+                number.parse().ok(),
+                "{name}"
+            );
+        } else {
+            assert!(result.is_ok(), "{name}");
+        }
+    }
+}
+
+#[test]
+fn corpus_meets_all_but_the_longest() {
+    let mut tally = Tally::default();
+    corpus::load()
+        .iter()
+        .for_each(|(_, s)| tally.count(&play(s, None)));
+    tally.count(&play(&vec![b'0'; 65_537], None));
+    assert!(tally.full(), "numbers {NUMBERS:?}, splits {SPLITS:?}");
+}
+
+#[test]
+fn made_sheets_agree_and_list_only_faulty_boards() {
+    for seed in 0..3000 {
+        let text = make::sheet(seed);
+        let Ok(outcome) = play(&text, None) else {
+            continue;
+        };
+        let faulty = sheet::read(&text).unwrap().faulty;
+        let first = outcome.decided[0].1;
+        for (board, decision, list) in &outcome.decided {
+            assert!(!has(faulty, *board) && list & !faulty == 0, "seed {seed}");
+            assert_eq!(*decision, first, "seed {seed}");
+        }
+        detected_while_unequal(&outcome, seed);
+        let hidden = Mistake::ALL.into_iter().filter(|m| m.hidden());
+        hidden.for_each(|m| assert_eq!(bench_with(&text, m), print(&play(&text, None))));
+    }
+}
+
+/// Unequal roots after run t mean t (b - 3) + 1 boards on every list.
+fn detected_while_unequal(outcome: &second::Outcome, seed: u64) {
+    for run in (1..=outcome.roots.len()).filter(|r| outcome.unequal_after(*r)) {
+        let common = outcome.lists[run - 1].iter().fold(!0, |all, l| all & l);
+        let least = run * (outcome.plan.depth as usize - 3) + 1;
+        assert!(common.count_ones() as usize >= least, "seed {seed}");
+    }
+}
