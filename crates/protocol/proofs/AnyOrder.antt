@@ -256,19 +256,22 @@ module _ (r : Record) (g : Good r) (undecided : r .decided ≡ false) (cells : L
       ap₂ (holding r) (marks-none r msg (r .plan .n) a) (cells-none r msg cells (r .plan .n) a)
 
   -- A board sends cells of the level before, which hearing leaves alone.
-  sent-kept : (msg : ℕ → Option (List ℕ)) (α : Label) → List·Memᴰ α (sent (r .plan) (r .board) (r .board) (r .round))
-      → cellAt (r .plan .n) (heardCells r msg cells (r .plan .n)) α ≡ cellAt (r .plan .n) cells α
-  sent-kept msg α m =
+  sent-kept : (msg : ℕ → Option (List ℕ)) (j : ℕ) (α : Label) → j ≤ r .plan .n → List·Memᴰ α (sent (r .plan) (r .board) (r .board) (r .round))
+      → cellAt (r .plan .n) (heardCells r msg cells j) α ≡ cellAt (r .plan .n) cells α
+  sent-kept msg j α h m =
       let p = r .plan in
       let i = r .board in
       let k = r .round in
       cases (eqb (k .0) 1)
       (λ e. absurd (g .other (sent-first p i i k α (eqb-true (k .0) 1 e) m .0)))
       (λ e. let here = inner-inv p i (k .0 - 1) α (sent-inv p i i k α (eqb-false (k .0) 1 e) m .0) .0 in
-      heard-outside r g undecided msg cells room (p .n) (omega arith) (k .0 - 1) α (node-label p i (k .0 - 1) α here)
+      heard-outside r g undecided msg cells room j h (k .0 - 1) α (node-label p i (k .0 - 1) α here)
       (λ w. absurd (omega (arith, node-length p i (k .0 - 1) α here, node-length p i (k .0) α w, g .position .round-low))))
 
-  -- What a board sends in a round does not depend on what it hears in it.
-  pub heard-frame : (msg : ℕ → Option (List ℕ)) → frameOf (heardAll msg) ≡ frameOf (record { rec = r; cells = cells })
+  -- What a board sends in a round does not depend on what it hears in it, whether from some boards or from all.
+  pub part-frame : (msg : ℕ → Option (List ℕ)) (j : ℕ) → j ≤ r .plan .n → frameOf (heard r g undecided msg cells room j) ≡ frameOf (record { rec = r; cells = cells })
   unfolding frameOf frame read
-  heard-frame msg = map-same _ _ (sent (r .plan) (r .board) (r .board) (r .round)) (λ α m. ap (value (r .plan)) (sent-kept msg α m))
+  part-frame msg j h = map-same _ _ (sent (r .plan) (r .board) (r .board) (r .round)) (λ α m. ap (value (r .plan)) (sent-kept msg j α h m))
+
+  pub heard-frame : (msg : ℕ → Option (List ℕ)) → frameOf (heardAll msg) ≡ frameOf (record { rec = r; cells = cells })
+  heard-frame msg = part-frame msg (r .plan .n) (omega arith)

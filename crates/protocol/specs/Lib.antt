@@ -8,5 +8,6 @@ pub mod Sheet
 pub mod Playing
 pub mod Lists
 pub mod Claims
+pub mod Printed
 pub mod Cases
 pub mod Example

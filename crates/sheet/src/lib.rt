@@ -1,3 +1,4 @@
-// Reading a sheet.
-pub mod head;
-pub mod text;
+// Playing a sheet.
+mod acting;
+pub mod playing;
+mod stage;

@@ -1,0 +1,93 @@
+-- What is reported for a sheet that was played is what the program prints.
+-- Assumes nothing.
+use Prim.Native.Nat.{ℕ, _≤_}
+use mathlib.Core.Path.{_≡_, refl, sym, ap, ap₂, _∙_}
+use mathlib.Core.Logic.{_≢_}
+use mathlib.Core.Bool.{Bool, true, false, cond}
+use mathlib.Core.List.{List}
+use native.Mathlib.Omega.{arith}
+use lib.Dec.{eqb, ltb}
+use lib.ListN.{length, getD, take, drop, length-append, length-drop}
+use lib.Seq.{take-at}
+use borrow.Author.Tests.{eq-eqb, ne-eqb, eqb-false}
+use Rattle.plan.specs.Outcome.{Outcome, refused, refusal}
+use Rattle.plan.proofs.Outcomes.{refusal-number}
+use Rattle.protocol.specs.declared.answers.Played.{Played}
+use Rattle.protocol.specs.declared.answers.Played.the-variants.{Written, Refused}
+use Rattle.protocol.specs.Answers.{playedSays}
+use Rattle.protocol.specs.Sheet.{wrongAt, reading}
+use Rattle.protocol.specs.Playing.{Play, playing, playHead, refusedPlay, finalBoards, printBoards, refusalText, benchPrints}
+use Rattle.printer.specs.Printed.{reportLength, reportOut}
+use Rattle.printer.proofs.Stores.{refusal-size}
+use Rattle.printer.proofs.Reports.{report-written, refused-length, refused-out}
+
+-- The first of an answer's values.
+abbrev first : Outcome → ℕ
+first o = getD (o .values) 0 0
+
+-- The output is as long as it came, and holds what is said to be written.
+pub record Fits (out : List ℕ) (p : Play) : Type 0 where
+  pub room : length out ≤ length (p .out)
+  pub holds : p .answer .number ≡ 0 → first (p .answer) ≤ length (p .out)
+
+fits-refused : (out cells : List ℕ) (o : Outcome) → o .number ≢ 0 → Fits out (refusedPlay o cells out)
+unfolding refusedPlay
+fits-refused out cells o ne = record { room = omega arith; holds = λ e. absurd (ne e) }
+
+fits-cond : (out : List ℕ) (b : Bool) (x y : Play) → (b ≡ true → Fits out x) → (b ≡ false → Fits out y) → Fits out (cond b x y)
+fits-cond out true x y f g = f refl
+fits-cond out false x y f g = g refl
+
+pub playing-fits : (text cells out : List ℕ) → Fits out (playing text cells out)
+unfolding playing playHead wrongAt
+playing-fits text cells out =
+    let r = reading text in
+    let t = printBoards (r .head) (finalBoards (r .head) (r .frames) cells) 0 (r .head .n) in
+    let size = length-append t (drop (length t) out) in
+    let rest = length-drop (length t) out in
+    let accepted = playHead (r .head) (r .frames) cells out in
+    fits-cond out (ltb 65536 (length text)) _ _
+    (λ e. fits-refused out cells (wrongAt 0 (refused 20)) (λ z. absurd (omega arith)))
+    (λ e. fits-cond out (ltb (length out) 49) _ _
+    (λ e. fits-refused out cells (wrongAt 0 (refused 17)) (λ z. absurd (omega arith)))
+    (λ e. fits-cond out (ltb (length cells) 13699) _ _
+    (λ e. fits-refused out cells (wrongAt 0 (refused 11)) (λ z. absurd (omega arith)))
+    (λ e. fits-cond out (eqb (r .answer .number) 0) accepted (refusedPlay (r .answer) cells out)
+    (λ e. record { room = omega (arith, size, rest); holds = λ z. omega (arith, size, rest) })
+    (λ e. fits-refused out cells (r .answer) (eqb-false (r .answer .number) 0 e)))))
+
+-- What the program prints, by the answer's number.
+module _ (text cells out : List ℕ) where
+  prints-lines : playing text cells out .answer .number ≡ 0
+      → benchPrints text cells out ≡ take (first (playing text cells out .answer)) (playing text cells out .out)
+  unfolding benchPrints
+  prints-lines e = rw (eq-eqb (playing text cells out .answer .number) 0 e) refl
+
+  prints-refusal : playing text cells out .answer .number ≢ 0
+      → benchPrints text cells out ≡ refusalText (playing text cells out .answer .number) (first (playing text cells out .answer))
+  unfolding benchPrints
+  prints-refusal ne = rw (ne-eqb (playing text cells out .answer .number) 0 ne) refl
+
+-- What the program prints, for an answer that says what playing says.
+pub bench-prints : (text cells out out₁ : List ℕ) (a : Played) → 9 ≤ length out
+    → playedSays a ≡ playing text cells out .answer → out₁ ≡ playing text cells out .out
+    → take (reportLength a out₁) (reportOut a out₁) ≡ benchPrints text cells out
+unfolding playedSays
+bench-prints text cells out out₁ (Written k) l e eo =
+    let p = playing text cells out in
+    let fits = playing-fits text cells out in
+    let number : 0 ≡ p .answer .number = ap (λ o. o .number) e in
+    let values : k ≡ first (p .answer) = ap first e in
+    let (rl, ro) = report-written (Written k) k out₁ refl (let z : k ≤ length out₁ = omega (arith, fits .holds (sym number), ap length eo) in z) in
+    sym (ap₂ take rl ro) ∙ ap₂ take values eo ∙ sym (prints-lines text cells out (sym number))
+bench-prints text cells out out₁ (Refused why line) l e eo =
+    let p = playing text cells out in
+    let fits = playing-fits text cells out in
+    let number : refusal why .number ≡ p .answer .number = ap (λ o. o .number) e in
+    let values : line ≡ first (p .answer) = ap first e in
+    let room : 9 ≤ length out₁ = omega (arith, fits .room, ap length eo) in
+    let text′ = refusalText (refusal why .number) line in
+    ap₂ take (refused-length why line out₁ room) (refused-out why line out₁ room)
+    ∙ take-at text′ (drop 9 out₁) 9 (refusal-size (refusal why .number) line)
+    ∙ ap₂ refusalText number values
+    ∙ sym (prints-refusal text cells out (λ z. refusal-number why (number ∙ z)))

@@ -1,0 +1,186 @@
+-- The lines of the boards, one more at a time; what they depend on, and how long they are.
+-- Assumes nothing.
+use Prim.Native.Nat.{ℕ, zero, suc, _+_, _*_, _≤_, _<_}
+use mathlib.Core.Path.{_≡_, refl, sym, ap, ap₂, _∙_}
+use mathlib.Core.Logic.{_≢_}
+use mathlib.Core.Bool.{true, false, cond}
+use mathlib.Core.List.{List, [], _∷_, _++_, append-assoc, append-nil}
+use native.Mathlib.Numerals.{add-one}
+use native.Mathlib.Omega.{arith}
+use lib.Dec.{eqb, leb}
+use lib.ListN.{length, getD, drop, length-append, List·getD-map}
+use lib.Seq.{sets}
+use borrow.Author.Tests.{eqb-false, lt-leb, le-leb}
+use Rattle.sets.specs.Sets.{member}
+use Rattle.sets.proofs.Tests.{cases}
+use Rattle.protocol.specs.declared.records.Record.{Record}
+use Rattle.protocol.specs.Calls.{voidRecord}
+use Rattle.protocol.specs.Rounds.{Board}
+use Rattle.protocol.specs.Session.{Boards, boardAt, nobody}
+use Rattle.protocol.specs.Sheet.{Head}
+use Rattle.protocol.specs.Playing.{hexByte, printed, boardLine, printBoards}
+use Rattle.printer.specs.Printed.{printHead, boardsOf, boardLines}
+use Rattle.printer.proofs.Stores.{stores-more}
+
+-- The record of board i.
+pub record-at : (records : List Record) (i : ℕ) → boardAt (boardsOf records) i .rec ≡ getD records i voidRecord
+unfolding boardAt boardsOf nobody
+record-at records i = ap (λ (b : Board). b .rec) (List·getD-map (λ (r : Record). record { rec = r; cells = [] }) records i voidRecord)
+
+-- Where there is none, it shows 0 and an empty list.
+pub decision-at : (records : List Record) (i : ℕ) (other : Record) → other .decision ≡ 0
+    → getD records i other .decision ≡ boardAt (boardsOf records) i .rec .decision
+unfolding boardAt boardsOf nobody voidRecord
+decision-at [] i other e = e
+decision-at (r ∷ rs) zero other e = refl
+decision-at (r ∷ rs) (suc i) other e = decision-at rs i other e
+
+pub detected-at : (records : List Record) (i : ℕ) (other : Record) → other .detected ≡ 0
+    → getD records i other .detected ≡ boardAt (boardsOf records) i .rec .detected
+unfolding boardAt boardsOf nobody voidRecord
+detected-at [] i other e = e
+detected-at (r ∷ rs) zero other e = refl
+detected-at (r ∷ rs) (suc i) other e = detected-at rs i other e
+
+module _ (h : Head) (w : Boards) where
+  -- The line of board i, by its kind.
+  pub line-faulty : (i : ℕ) (rest : List ℕ) → member i (h .faulty) ≡ true → boardLine h w i rest ≡ rest
+  unfolding boardLine
+  line-faulty i rest f = rw f refl
+
+  pub line-dealer : (i : ℕ) (rest : List ℕ) → member i (h .faulty) ≡ false → eqb i (h .dealer) ≡ true
+      → boardLine h w i rest ≡ printed i (h .word) 0 rest
+  unfolding boardLine
+  line-dealer i rest f d = rw (f, d) refl
+
+  pub line-other : (i : ℕ) (rest : List ℕ) → member i (h .faulty) ≡ false → eqb i (h .dealer) ≡ false
+      → boardLine h w i rest ≡ printed i (boardAt w i .rec .decision) (boardAt w i .rec .detected) rest
+  unfolding boardLine
+  line-other i rest f d = rw (f, d) refl
+
+  -- A line stands before the rest.
+  line-first : (i : ℕ) (rest : List ℕ) → boardLine h w i rest ≡ boardLine h w i [] ++ rest
+  unfolding printed hexByte
+  line-first i rest =
+      cases (member i (h .faulty))
+      (λ f. rw (line-faulty i rest f, line-faulty i [] f) refl)
+      (λ f. cases (eqb i (h .dealer))
+      (λ d. rw (line-dealer i rest f d, line-dealer i [] f d) refl)
+      (λ d. rw (line-other i rest f d, line-other i [] f d) refl))
+
+  -- One board more.
+  lines-last : (i k : ℕ) → printBoards h w i (suc k) ≡ printBoards h w i k ++ boardLine h w (i + k) []
+  unfolding printBoards
+  lines-last i zero = ap (λ j. boardLine h w j []) (let z : i ≡ i + 0 = omega arith in z)
+  lines-last i (suc k) =
+      let z : suc i + k ≡ i + suc k = omega arith in
+      ap (boardLine h w i) (lines-last (suc i) k)
+      ∙ line-first i _
+      ∙ sym (append-assoc (boardLine h w i []) (printBoards h w (suc i) k) (boardLine h w (suc i + k) []))
+      ∙ ap₂ _++_ (sym (line-first i (printBoards h w (suc i) k))) (ap (λ j. boardLine h w j []) z)
+
+  pub lines-more : (k : ℕ) → printBoards h w 0 (k + 1) ≡ printBoards h w 0 k ++ boardLine h w k []
+  lines-more k =
+      let z : 0 + k ≡ k = omega arith in
+      ap (printBoards h w 0) (add-one k) ∙ lines-last 0 k ∙ ap (λ j. printBoards h w 0 k ++ boardLine h w j []) z
+
+  pub lines-none : printBoards h w 0 0 ≡ []
+  unfolding printBoards
+  lines-none = refl
+
+  -- A line has seven bytes, or none.
+  pub line-size : (i : ℕ) → member i (h .faulty) ≡ false → length (boardLine h w i []) ≡ 7
+  unfolding printed hexByte
+  line-size i f = cases (eqb i (h .dealer)) (λ d. rw (line-dealer i [] f d) refl) (λ d. rw (line-other i [] f d) refl)
+
+  pub print-short : (k : ℕ) → length (printBoards h w 0 k) ≤ 7 * k
+  print-short zero = rw lines-none (omega arith)
+  print-short (suc k) =
+      let e = ap length (lines-last 0 k) ∙ length-append (printBoards h w 0 k) (boardLine h w (0 + k) []) in
+      let l : length (boardLine h w (0 + k) []) ≤ 7 =
+      cases (member (0 + k) (h .faulty)) (λ f. rw (line-faulty (0 + k) [] f) (omega arith)) (λ f. omega (arith, line-size (0 + k) f)) in
+      omega (arith, e, l, print-short k)
+
+  -- The line with what the code shows of a board.
+  pub line-shown : (i decision detected v s : ℕ) → decision ≡ cond (eqb i (h .dealer)) (h .word) v → detected ≡ cond (eqb i (h .dealer)) 0 s
+      → v ≡ boardAt w i .rec .decision → s ≡ boardAt w i .rec .detected → member i (h .faulty) ≡ false
+      → printed i decision detected [] ≡ boardLine h w i []
+  line-shown i decision detected v s ev es rv rs f =
+      cases (eqb i (h .dealer))
+      (λ d. let e : decision ≡ h .word = rw d at ev in
+      let e′ : detected ≡ 0 = rw d at es in
+      ap₂ (λ x y. printed i x y []) e e′ ∙ sym (line-dealer i [] f d))
+      (λ d. let e : decision ≡ v = rw d at ev in
+      let e′ : detected ≡ s = rw d at es in
+      ap₂ (λ x y. printed i x y []) (e ∙ rv) (e′ ∙ rs) ∙ sym (line-other i [] f d))
+
+  -- A turn of the loop: the line is stored after those before it, or there is none.
+  pub one-more : (i used : ℕ) (out₀ out next line : List ℕ) → used ≡ length (printBoards h w 0 i) → out ≡ sets out₀ 0 (printBoards h w 0 i)
+      → member i (h .faulty) ≡ false → line ≡ boardLine h w i [] → next ≡ sets out used line
+      → (used + 7 ≡ length (printBoards h w 0 (i + 1))) × (next ≡ sets out₀ 0 (printBoards h w 0 (i + 1)))
+  one-more i used out₀ out next line eu eo f el en =
+      let e = lines-more i in
+      let size = ap length e ∙ length-append (printBoards h w 0 i) (boardLine h w i []) in (
+        omega (arith, size, line-size i f),
+        en ∙ ap₂ (λ o t. sets o used t) eo el ∙ stores-more out₀ (printBoards h w 0 i) (boardLine h w i []) 0 used (omega arith) ∙ ap (sets out₀ 0) (sym e),
+      )
+
+  pub none-more : (i : ℕ) → member i (h .faulty) ≡ true → printBoards h w 0 i ≡ printBoards h w 0 (i + 1)
+  none-more i f = sym (lines-more i ∙ ap (λ t. printBoards h w 0 i ++ t) (line-faulty i [] f) ∙ append-nil (printBoards h w 0 i))
+
+-- What `print_boards` prints: nothing, or the lines.
+module _ (n dealer faulty word : ℕ) (records : List Record) (out : List ℕ) where
+  abbrev text : List ℕ
+  text = boardLines n dealer faulty word records out
+
+  nothing : text ≡ [] → (0 ≡ length text) × (out ≡ text ++ drop (length text) out)
+  nothing e = rw e (refl, refl)
+
+  pub many-boards : 7 < n → (0 ≡ length text) × (out ≡ text ++ drop (length text) out)
+  unfolding boardLines
+  many-boards l = nothing (rw (lt-leb n 7 l) refl)
+
+  pub short-output : length out < 49 → (0 ≡ length text) × (out ≡ text ++ drop (length text) out)
+  unfolding boardLines
+  short-output l = nothing (cases (leb n 7) (λ e. rw (e, lt-leb 49 (length out) l) refl) (λ e. rw e refl))
+
+  pub all-lines : n ≤ 7 → 49 ≤ length out → text ≡ printBoards (printHead n dealer faulty word) (boardsOf records) 0 n
+  unfolding boardLines
+  all-lines l m = rw (le-leb n 7 l, le-leb 49 (length out) m) refl
+
+-- What is printed depends on n, the dealer, its value and F, and on the records of the boards that are neither the dealer nor in F.
+module _ (h h′ : Head) (w w′ : Boards) (ed : h .dealer ≡ h′ .dealer) (ef : h .faulty ≡ h′ .faulty) (ew : h .word ≡ h′ .word) where
+  line-same : (i : ℕ) (rest : List ℕ) → (member i (h .faulty) ≡ false → i ≢ h .dealer → boardAt w i .rec ≡ boardAt w′ i .rec)
+      → boardLine h w i rest ≡ boardLine h′ w′ i rest
+  line-same i rest same =
+      cases (member i (h .faulty))
+      (λ f. line-faulty h w i rest f ∙ sym (line-faulty h′ w′ i rest (ap (member i) (sym ef) ∙ f)))
+      (λ f. let f′ = ap (member i) (sym ef) ∙ f in
+      cases (eqb i (h .dealer))
+      (λ d. line-dealer h w i rest f d ∙ ap (λ v. printed i v 0 rest) ew ∙ sym (line-dealer h′ w′ i rest f′ (ap (eqb i) (sym ed) ∙ d)))
+      (λ d. line-other h w i rest f d
+      ∙ ap (λ (r : Record). printed i (r .decision) (r .detected) rest) (same f (eqb-false i (h .dealer) d))
+      ∙ sym (line-other h′ w′ i rest f′ (ap (eqb i) (sym ed) ∙ d))))
+
+  pub print-same : (k : ℕ) → ((i : ℕ) → i < k → member i (h .faulty) ≡ false → i ≢ h .dealer → boardAt w i .rec ≡ boardAt w′ i .rec)
+      → printBoards h w 0 k ≡ printBoards h′ w′ 0 k
+  print-same zero same = lines-none h w ∙ sym (lines-none h′ w′)
+  print-same (suc k) same =
+      let z : 0 + k ≡ k = omega arith in
+      lines-last h w 0 k
+      ∙ ap₂ _++_ (print-same k (λ i l. same i (omega arith))) (line-same (0 + k) [] (rw z (same k (omega arith))))
+      ∙ sym (lines-last h′ w′ 0 k)
+
+-- For records in hand: the lines are those of boards with these records.
+module _ (h : Head) (w : Boards) (records : List Record) where
+  pub records-print : (k : ℕ) → ((i : ℕ) → i < k → member i (h .faulty) ≡ false → i ≢ h .dealer → getD records i voidRecord ≡ boardAt w i .rec)
+      → printBoards (printHead (h .n) (h .dealer) (h .faulty) (h .word)) (boardsOf records) 0 k ≡ printBoards h w 0 k
+  unfolding printHead
+  records-print k same =
+      print-same (printHead (h .n) (h .dealer) (h .faulty) (h .word)) h (boardsOf records) w refl refl refl k
+      (λ i l f d. record-at records i ∙ same i l f d)
+
+  pub lines-played : (out : List ℕ) → h .n ≤ 7 → 49 ≤ length out
+      → ((i : ℕ) → i < h .n → member i (h .faulty) ≡ false → i ≢ h .dealer → getD records i voidRecord ≡ boardAt w i .rec)
+      → boardLines (h .n) (h .dealer) (h .faulty) (h .word) records out ≡ printBoards h w 0 (h .n)
+  lines-played out l m same = all-lines (h .n) (h .dealer) (h .faulty) (h .word) records out l m ∙ records-print (h .n) same

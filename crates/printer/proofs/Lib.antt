@@ -1,0 +1,4 @@
+pub mod Stores
+pub mod BoardLines
+pub mod Reports
+pub mod Bench

@@ -1,0 +1,42 @@
+-- Bytes, lines and refusals as runs of stores.
+-- Assumes nothing.
+use Prim.Native.Nat.{ℕ, suc, _+_, _/_, _%_, _≤_}
+use mathlib.Core.Path.{_≡_, refl, ap, _∙_}
+use mathlib.Core.List.{List, [], _∷_, _++_}
+use native.Mathlib.Numerals.{add-one, add-two, add-four, add-six}
+use native.Mathlib.Omega.{arith}
+use lib.ListN.{length, drop, set}
+use lib.Seq.{sets, sets-eq}
+use Rattle.protocol.specs.Playing.{hexDigit, hexByte, printed, refusalText}
+
+-- Two runs, one after the other.
+pub stores-more : (l a b : List ℕ) (i k : ℕ) → k ≡ i + length a → sets (sets l i a) k b ≡ sets l i (a ++ b)
+stores-more l [] b i k e = ap (λ m. sets l m b) (let z : k ≡ i = omega arith in z)
+stores-more l (x ∷ a) b i k e = stores-more (set l i x) a b (suc i) k (omega arith)
+
+-- A run from the start.
+pub stores-first : (l a : List ℕ) → length a ≤ length l → sets l 0 a ≡ a ++ drop (length a) l
+stores-first l a h =
+    let z : 0 + length a ≡ length a = omega arith in
+    sets-eq a l 0 (omega arith) ∙ ap (λ k. a ++ drop k l) z
+
+pub byte-stores : (o : List ℕ) (at x high low : ℕ) → high ≡ hexDigit (x / 16) → low ≡ hexDigit (x % 16)
+    → set (set o at high) (at + 1) low ≡ sets o at (hexByte x [])
+unfolding hexByte
+byte-stores o at x high low eh el = rw (eh, el, add-one at) refl
+
+pub line-stores : (o : List ℕ) (at board decision detected : ℕ)
+    → set (sets (sets (sets o at (hexByte board [])) (at + 2) (hexByte decision [])) (at + 4) (hexByte detected [])) (at + 6) 10
+    ≡ sets o at (printed board decision detected [])
+unfolding hexByte printed
+line-stores o at board decision detected = rw (add-two at, add-four at, add-six at) refl
+
+pub refusal-stores : (o : List ℕ) (number line : ℕ)
+    → set (sets (sets (sets (sets o 0 (hexByte 255 [])) 2 (hexByte number [])) 4 (hexByte (line / 256) [])) 6 (hexByte (line % 256) [])) 8 10
+    ≡ sets o 0 (refusalText number line)
+unfolding hexByte refusalText
+refusal-stores o number line = refl
+
+pub refusal-size : (number line : ℕ) → length (refusalText number line) ≡ 9
+unfolding hexByte refusalText
+refusal-size number line = refl

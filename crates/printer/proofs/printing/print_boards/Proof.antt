@@ -1,0 +1,132 @@
+-- `print_boards` meets its contract: the lines of the boards below i.
+-- Assumes nothing.
+use Prim.Native.Nat.{_-_, _≤_}
+use mathlib.Core.Path.{_≡_, refl, sym, ap, _∙_}
+use mathlib.Core.Logic.{⊎-elim}
+use mathlib.Core.Bool.{true, false}
+use mathlib.Core.List.{_++_}
+use native.Mathlib.Omega.{arith}
+use lib.ListN.{length, drop}
+use lib.Seq.{sets, length-sets}
+use borrow.Author.Needs.{needs}
+use Rattle.sets.specs.Sets.{member}
+use Rattle.sets.proofs.Tests.{not-t, not-f}
+use Rattle.protocol.specs.Playing.{printBoards}
+use Rattle.printer.specs.Printed.{printHead, boardsOf, boardLines}
+use Rattle.printer.proofs.Stores.{stores-first}
+use Rattle.printer.proofs.BoardLines.{decision-at, detected-at, line-shown, one-more, none-more, lines-none, print-short, many-boards, short-output, all-lines}
+use Rattle.printer.proofs.printing.print_boards.Statement.{statement}
+use Rattle.printer.proofs.printing.print_boards.Tie as tie
+
+abbrev Inv-loop : tie.InvT-loop
+Inv-loop n dealer faulty word out₀ records used₀ i₀ out used i =
+    let text = printBoards (printHead n dealer faulty word) (boardsOf records) 0 i in
+    (i ≤ n) × (used ≡ length text) × (out ≡ sets out₀ 0 text)
+
+abbrev μ-loop : tie.MeasureT-loop
+μ-loop n dealer faulty word out₀ records used₀ i₀ out used i = n - i
+
+returns : tie.Need-returns Inv-loop μ-loop
+returns c = let a = c .before .before .args in many-boards a.n a.dealer a.faulty a.word a.t5 (a.out .now) (c .if1 .taken)
+
+returns-2 : tie.Need-returns-2 Inv-loop μ-loop
+returns-2 c = let a = c .before .before .before .args in short-output a.n a.dealer a.faulty a.word a.t5 (a.out .now) (c .if2 .taken)
+
+loop-holds : tie.Need-loop-holds Inv-loop μ-loop
+loop-holds c =
+    let a = c .before .before .before .args in
+    let none = lines-none (printHead a.n a.dealer a.faulty a.word) (boardsOf a.t5) in
+    (omega arith, sym (ap length none), sym (ap (sets (a.out .now) 0) none))
+
+cast-r : tie.Need-cast-r Inv-loop μ-loop
+cast-r c = search needs
+
+mul-r : tie.Need-mul-r Inv-loop μ-loop
+mul-r c = record { fits = omega arith }
+
+array-copy-out-r : tie.Need-array-copy-out-r Inv-loop μ-loop
+array-copy-out-r c = omega arith
+
+has-requires : tie.Need-has-requires Inv-loop μ-loop
+has-requires c κs = search needs
+
+shown-requires : tie.Need-shown-requires Inv-loop μ-loop
+shown-requires c κs = search needs
+
+shown-requires-2 : tie.Need-shown-requires-2 Inv-loop μ-loop
+shown-requires-2 c κs = search needs
+
+print-line-requires : tie.Need-print-line-requires Inv-loop μ-loop
+print-line-requires c κs =
+    let a = c .before .before .before .before .before .before .before .before .before .before .before .args in
+    let l = c .before .before .before .before .before .before .before .loop in
+    omega (arith, l .inv .1, print-short (printHead a.n a.dealer a.faulty a.word) (boardsOf a.t5) l.i, ap length (l .inv .2), length-sets (a.out .now) 0 (printBoards (printHead a.n a.dealer a.faulty a.word) (boardsOf a.t5) 0 l.i))
+
+add-used : tie.Need-add-used Inv-loop μ-loop
+add-used c =
+    let a = c .before .before .before .before .before .before .before .before .before .before .before .before .before .before .args in
+    let l = c .before .before .before .before .before .before .before .before .before .before .loop in
+    record { fits = omega (arith, l .inv .1, print-short (printHead a.n a.dealer a.faulty a.word) (boardsOf a.t5) l.i) }
+
+add-i : tie.Need-add-i Inv-loop μ-loop
+add-i c = omega arith
+
+loop-less : tie.Need-loop-less Inv-loop μ-loop
+loop-less c = omega arith
+
+loop-again : tie.Need-loop-again Inv-loop μ-loop
+unfolding printHead
+loop-again c =
+    let a = c .before .before .before .before .before .before .before .before .args in
+    let l = c .before .before .before .before .loop in
+    let h = printHead a.n a.dealer a.faulty a.word in
+    let b = boardsOf a.t5 in
+    ⊎-elim
+    (λ w. let f : member l.i a.faulty ≡ false = sym (c .before .has .ensures) ∙ not-t (c .before .has .result) (w .0 .taken) in
+    let line = line-shown h b l.i (w .1 .result) (w .2 .result) _ _ (w .1 .ensures) (w .2 .ensures) (decision-at a.t5 l.i _ refl) (detected-at a.t5 l.i _ refl) f in
+    let (u, o) = one-more h b l.i l.used (a.out .now) l.out _ _ (l .inv .1) (l .inv .2) f line (w .4 .ensures) in
+    (omega arith, w .8 ∙ u, w .7 ∙ o))
+    (λ w. let f : member l.i a.faulty ≡ true = sym (c .before .has .ensures) ∙ not-f (c .before .has .result) (w .0 .left) in
+    let e = none-more h b l.i f in
+    (omega arith, w .2 ∙ l .inv .1 ∙ ap length e, w .1 ∙ l .inv .2 ∙ ap (sets (a.out .now) 0) e))
+    (c .if3 .came)
+
+same-length : tie.Need-same-length Inv-loop μ-loop
+same-length c =
+    let a = c .before .before .before .before .before .args in
+    let l = c .before .loop in
+    ap length (l .inv .2) ∙ length-sets (a.out .now) 0 (printBoards (printHead a.n a.dealer a.faulty a.word) (boardsOf a.t5) 0 l.i)
+
+returns-3 : tie.Need-returns-3 Inv-loop μ-loop
+returns-3 c =
+    let a = c .before .before .before .before .before .args in
+    let l = c .before .loop in
+    let text = printBoards (printHead a.n a.dealer a.faulty a.word) (boardsOf a.t5) 0 l.i in
+    let e : text ≡ boardLines a.n a.dealer a.faulty a.word a.t5 (a.out .now) =
+    ap (printBoards (printHead a.n a.dealer a.faulty a.word) (boardsOf a.t5) 0) (let z : l.i ≡ a.n = omega arith in z) ∙ sym (all-lines a.n a.dealer a.faulty a.word a.t5 (a.out .now) (omega arith) (omega arith)) in (
+      l .inv .1 ∙ ap length e,
+      l .inv .2 ∙ stores-first (a.out .now) text (omega (arith, print-short (printHead a.n a.dealer a.faulty a.word) (boardsOf a.t5) l.i)) ∙ ap (λ t. t ++ drop (length t) (a.out .now)) e,
+    )
+
+pub print-boards-spec : {M : Type 1} → statement M
+print-boards-spec =
+    tie.close
+    (tie.spec
+    Inv-loop
+    μ-loop
+    returns
+    returns-2
+    loop-holds
+    cast-r
+    mul-r
+    array-copy-out-r
+    has-requires
+    shown-requires
+    shown-requires-2
+    print-line-requires
+    add-used
+    add-i
+    loop-less
+    loop-again
+    same-length
+    returns-3)

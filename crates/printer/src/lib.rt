@@ -1,0 +1,2 @@
+// What the bench prints.
+pub mod printing;

@@ -1,0 +1,200 @@
+-- A frame has at most 120 values: a longer part of a frame is never read, and room for 121 values is enough to write every frame.
+-- Assumes nothing.
+use Prim.Native.Nat.{ℕ, zero, suc, _-_, _*_, _≤_, _<_}
+use mathlib.Core.Path.{_≡_, refl, _∙_, ap, subst}
+use mathlib.Core.Logic.{_≢_, ⊎-elim}
+use mathlib.Core.Bool.{Bool, true, false, not, _&&_, cond}
+use mathlib.Core.List.{List, [], _∷_, _++_, List·Memᴰ, List·Memᴰ·head, List·Memᴰ·tail, List·Memᴰ·cases-cons, List·Memᴰ·not-nil}
+use native.Mathlib.Omega.{arith}
+use native.Mathlib.Nat.{mul-le-mul-right, mul-zero}
+use lib.Dec.{eqb, leb}
+use lib.ListN.{length, take, length-append, length-map}
+use lib.Seq.{take-all, length-take-le}
+use borrow.Author.Tests.{eq-eqb, ne-eqb, leb-true, leb-false, le-ltb}
+use Rattle.sets.specs.Search.{any}
+use Rattle.sets.specs.Sets.{member}
+use Rattle.sets.proofs.Tests.{cases, or-right}
+use Rattle.sets.proofs.Search.{any-of}
+use Rattle.plan.specs.declared.plan.Plan.{Plan}
+use Rattle.plan.specs.declared.schedule.Round.{Round}
+use Rattle.plan.specs.Outcome.{taken}
+use Rattle.plan.specs.Calls.{judged}
+use Rattle.plan.proofs.Outcomes.{taken-first}
+use Rattle.tree.specs.Labels.{Label, occurs, childrenFrom, children, childrenOf, labels}
+use Rattle.tree.specs.Places.{levelSize, ordinal}
+use Rattle.tree.proofs.Below.{all, all-at}
+use Rattle.tree.proofs.Entries.{getD-mem}
+use Rattle.tree.proofs.Children.{child-get, ordinal-size}
+use Rattle.tree.proofs.Sizes.{size-suc}
+use Rattle.tree.proofs.Ranks.{label-width}
+use Rattle.protocol.specs.declared.records.Record.{Record}
+use Rattle.protocol.specs.Nodes.{filter, internal, nodes, inner, sent, due, frame}
+use Rattle.protocol.specs.Rounds.{Board, counted, receive}
+use Rattle.protocol.specs.Calls.{isTaken, judgeOpen, judgeReceiving, receiving, frameOf, judgeSending, sending}
+use Rattle.protocol.proofs.Nodes.{inner-inv, node-label}
+use Rattle.protocol.proofs.Judgement.{is-taken, plan-facts, Open, open-taken}
+use Rattle.protocol.proofs.Reached.{receiving-facts, receiving-refused, due-sender}
+
+-- Filters.
+filter-length : (f : Label → Bool) (αs : List Label) → length (filter f αs) ≤ length αs
+unfolding filter
+filter-length f [] = omega arith
+filter-length f (α ∷ αs) = let ih = filter-length f αs in cases (f α) (λ e. rw e (omega arith)) (λ e. rw e (omega arith))
+
+filter-append : (f : Label → Bool) (αs βs : List Label) → filter f (αs ++ βs) ≡ filter f αs ++ filter f βs
+unfolding filter
+filter-append f [] βs = refl
+filter-append f (α ∷ αs) βs = let ih = filter-append f αs βs in cases (f α) (λ e. rw e (ap (λ x. α ∷ x) ih)) (λ e. rw e ih)
+
+filter-both : (f g : Label → Bool) (αs : List Label) → length (filter f (filter g αs)) ≤ length (filter f αs)
+unfolding filter
+filter-both f g [] = omega arith
+filter-both f g (α ∷ αs) =
+    let ih = filter-both f g αs in
+    cases (g α)
+    (λ e. cases (f α) (λ t. rw (e, t) (omega arith)) (λ t. rw (e, t) ih))
+    (λ e. cases (f α) (λ t. rw (e, t) (omega arith)) (λ t. rw (e, t) ih))
+
+filter-drops : (f : Label → Bool) (αs : List Label) (α : Label) → List·Memᴰ α αs → f α ≡ false → length (filter f αs) < length αs
+unfolding filter
+filter-drops f [] α m e = absurd (List·Memᴰ·not-nil m)
+filter-drops f (β ∷ αs) α m e =
+    ⊎-elim
+    (λ x. rw (subst (λ z. f z ≡ false) x e) (omega (arith, filter-length f αs)))
+    (λ w. let ih = filter-drops f αs α w e in cases (f β) (λ t. rw t (omega arith)) (λ t. rw t (omega arith)))
+    (List·Memᴰ·cases-cons m)
+
+-- The labels without board q.
+abbrev without : ℕ → List Label → List Label
+without q αs = filter (λ α. not (occurs q α)) αs
+
+-- Children of a label with q have q.
+with-none : (q : ℕ) (α : Label) (i k : ℕ) → occurs q α ≡ true → length (without q (childrenFrom α i k)) ≡ 0
+unfolding filter childrenFrom occurs
+with-none q α i zero e = refl
+with-none q α i (suc k) e =
+    let ih = with-none q α (suc i) k e in
+    cases (occurs i α) (λ t. rw t ih) (λ t. rw (t, or-right (eqb q i) (occurs q α) e) ih)
+
+-- Of the children of a label without q, one is by q.
+one-less : (n d q k : ℕ) (α : Label) → d < n → q < n → List·Memᴰ α (labels n d (suc k)) → occurs q α ≡ false
+    → length (without q (children n α)) ≤ n - 1 - suc k
+one-less n d q k α ld lq m e =
+    let here : List·Memᴰ (q ∷ α) (children n α) =
+    subst (λ z. List·Memᴰ z (children n α)) (child-get n α q lq e) (getD-mem (children n α) (ordinal q α) [] (ordinal-size n α q lq e)) in
+    let drops = filter-drops (λ α. not (occurs q α)) (children n α) (q ∷ α) here (unfold occurs in rw (eq-eqb q q refl)) in
+    omega (arith, label-width n d (suc k) α ld m)
+
+-- So a list of labels has at most so many children without q.
+of-few : (n q w : ℕ) (αs : List Label) → ((α : Label) → List·Memᴰ α αs → occurs q α ≡ false → length (without q (children n α)) ≤ w)
+    → length (without q (childrenOf n αs)) ≤ length (without q αs) * w
+unfolding filter childrenOf
+of-few n q w [] h = omega arith
+of-few n q w (α ∷ αs) h =
+    let ih = of-few n q w αs (λ β m. h β (List·Memᴰ·tail m)) in
+    let split = ap length (filter-append (λ α. not (occurs q α)) (children n α) (childrenOf n αs)) ∙ length-append (without q (children n α)) (without q (childrenOf n αs)) in
+    cases (occurs q α)
+    (λ e. let none : length (without q (children n α)) ≡ 0 = unfold children in with-none q α 0 n e in rw e (omega (arith, split)))
+    (λ e. let most = h α (List·Memᴰ·head refl) e in rw e (omega (arith, split)))
+
+module _ (p : Plan) (q i : ℕ) (ld : p .dealer < p .n) (lq : q < p .n) where
+  no-nodes : length (without q (nodes p i 0)) ≤ levelSize (p .n - 1) 0
+  unfolding nodes levelSize filter
+  no-nodes = omega arith
+
+  one-node : length (without q (nodes p i 1)) ≤ levelSize (p .n - 1) 1
+  unfolding nodes levelSize
+  one-node = filter-length (λ α. not (occurs q α)) ((p .dealer ∷ []) ∷ [])
+
+  next-nodes : (k : ℕ) → nodes p i (suc (suc k)) ≡ childrenOf (p .n) (inner p i (suc k))
+  unfolding nodes inner
+  next-nodes k = refl
+
+  inner-few : (k : ℕ) → length (without q (inner p i k)) ≤ length (without q (nodes p i k))
+  unfolding inner
+  inner-few k = filter-both (λ α. not (occurs q α)) (internal p i) (nodes p i k)
+
+  -- The nodes of a level without q are at most the labels of that level for one board less.
+  level-few : (k : ℕ) → length (without q (nodes p i k)) ≤ levelSize (p .n - 1) k
+  level-few zero = no-nodes
+  level-few (suc zero) = one-node
+  level-few (suc (suc k)) =
+      let w = p .n - 1 - suc k in
+      let αs = inner p i (suc k) in
+      let ih = level-few (suc k) in
+      let kids = of-few (p .n) q w αs (λ α m e. one-less (p .n) (p .dealer) q k α ld lq (node-label p i (suc k) α (inner-inv p i (suc k) α m .0)) e) in
+      let scaled : length (without q αs) * w ≤ levelSize (p .n - 1) (suc k) * w = mul-le-mul-right w (omega (arith, inner-few (suc k))) in
+      omega (arith, ap (λ x. length (without q x)) (next-nodes k), size-suc (p .n - 1) k)
+
+-- These are at most 120 where n is at most 7.
+size-few : (m k : ℕ) → m ≤ 6 → levelSize m k ≤ 120
+size-few m k l =
+    cases (leb k 7)
+    (λ e. let f : ℕ → ℕ → Bool = λ a b. leb (levelSize a b) 120 in
+    let low : k ≤ 7 = leb-true k 7 e in
+    leb-true (levelSize m k) 120 (all-at (f m) 8 (all-at (λ a. all (f a) 8) 7 (unfold levelSize in refl) m (omega arith)) k (omega arith)))
+    (λ e. let high : 7 < k = leb-false k 7 e in
+    let deep : k ≡ suc (suc (k - 2)) = omega arith in
+    let none : m - suc (k - 2) ≡ 0 = omega arith in
+    let gone : levelSize m k ≡ 0 =
+    ap (levelSize m) deep ∙ size-suc m (k - 2) ∙ ap (λ x. levelSize m (suc (k - 2)) * x) none ∙ mul-zero (levelSize m (suc (k - 2))) in
+    omega arith)
+
+-- A frame has at most 120 values.
+pub few : (p : Plan) → judged p .number ≡ 0 → (q i : ℕ) (k : Round) → q < p .n → length (sent p q i k) ≤ 120
+unfolding sent
+few p e q i k lq =
+    let f = plan-facts p e in
+    cases (eqb (k .0) 1)
+    (λ x. cases (eqb q (p .dealer)) (λ y. rw (x, y) (omega arith)) (λ y. rw (x, y) (omega arith)))
+    (λ x. rw x (omega (
+      arith,
+      inner-few p q i (f .dealer-below) lq (k .0 - 1),
+      level-few p q i (f .dealer-below) lq (k .0 - 1),
+      size-few (p .n - 1) (k .0 - 1) (omega (arith, f .admission .most-boards)),
+    )))
+
+-- Of a frame only its first 121 values are read: past 120 its length is wrong.
+counted-few : (r : Record) (q : ℕ) (αs : List Label) (f : List ℕ) → length αs ≤ 120 → counted r q αs (take 121 f) ≡ counted r q αs f
+unfolding counted
+counted-few r q αs f l =
+    cases (leb (length f) 121)
+    (λ e. ap (λ x. cond (eqb (length x) (length αs) && not (member q (r .detected))) x []) (take-all 121 f (leb-true (length f) 121 e)))
+    (λ e. let high : 121 < length f = leb-false (length f) 121 e in
+    let cut : length (take 121 f) ≡ 121 = length-take-le 121 f (omega arith) in
+    rw (ne-eqb (length (take 121 f)) (length αs) (omega arith), ne-eqb (length f) (length αs) (omega arith)))
+
+pub overlong : (b : Board) (q : ℕ) (f : List ℕ) → receiving b q (take 121 f) ≡ receiving b q f
+unfolding receiving receive
+overlong b q f =
+    let r = b .rec in
+    let αs = sent (r .plan) q (r .board) (r .round) in
+    cases (isTaken (judgeReceiving b q))
+    (λ e. let (o, d, _) = receiving-facts b q (is-taken (judgeReceiving b q) e) in
+    let most = few (r .plan) (o .good .plan-good) q (r .board) (r .round) (due-sender (r .plan) q (r .board) (r .round) d) in
+    rw (counted-few r q αs f most))
+    (λ e. rw e)
+
+-- A board that is open and has a frame due to some board writes it where there is room for 121 values.
+pub sends : (b : Board) (out : List ℕ) → Open b → 121 ≤ length out → any (λ i. due (b .rec .plan) (b .rec .board) i (b .rec .round)) (b .rec .plan .n) ≡ true
+    → sending b out .answer ≡ taken (length (frameOf b) ∷ [])
+unfolding sending judgeSending
+sends b out o room d =
+    let r = b .rec in
+    let size : length (frameOf b) ≡ length (sent (r .plan) (r .board) (r .board) (r .round)) =
+    unfold frameOf frame in length-map (sent (r .plan) (r .board) (r .board) (r .round)) _ in
+    let most = few (r .plan) (o .good .plan-good) (r .board) (r .board) (r .round) (o .good .below) in
+    taken-first (judgeOpen b) _ (ap (λ x. x .number) (open-taken b o)) ∙ rw (d, le-ltb (length out) (length (frameOf b)) (omega arith)) refl
+
+-- Where it writes none, nothing that is handed in under its number is taken in that round.
+pub unsent : (b c : Board) (out f : List ℕ) → Open b → 121 ≤ length out → c .rec .plan ≡ b .rec .plan → c .rec .round ≡ b .rec .round
+    → sending b out .answer .number ≢ 0 → receiving c (b .rec .board) f .board ≡ c
+unsent b c out f o room ep er silent =
+    let q = b .rec .board in
+    cases (isTaken (judgeReceiving c q))
+    (λ e. let (oc, d, _) = receiving-facts c q (is-taken (judgeReceiving c q) e) in
+    let d′ : due (b .rec .plan) q (c .rec .board) (b .rec .round) ≡ true =
+    subst (λ k. due (b .rec .plan) q (c .rec .board) k ≡ true) er (subst (λ p. due p q (c .rec .board) (c .rec .round) ≡ true) ep d) in
+    let below : c .rec .board < b .rec .plan .n = subst (λ (p : Plan). c .rec .board < p .n) ep (oc .good .below) in
+    absurd (silent (ap (λ x. x .number) (sends b out o room (any-of (λ i. due (b .rec .plan) q i (b .rec .round)) (b .rec .plan .n) (c .rec .board) below d′)))))
+    (λ e. receiving-refused c q f e)

@@ -1,0 +1,29 @@
+-- What is claimed of the text that a played sheet prints.
+use Prim.Native.Nat.{ℕ, zero, suc, _<_}
+use mathlib.Core.Path.{_≡_}
+use mathlib.Core.Bool.{true, false, cond}
+use mathlib.Core.List.{List, []}
+use Rattle.sets.specs.Sets.{member, within}
+use Rattle.protocol.specs.Sheet.{Head, reading}
+use Rattle.protocol.specs.Playing.{printed, playing, benchPrints}
+
+-- The lines of those boards i to i + k - 1 that are outside F, rising: the board, one decision, and the board's list.
+unfoldable pub agreedLines : Head → ℕ → (ℕ → ℕ) → ℕ → ℕ → List ℕ
+agreedLines h decision lists i zero = []
+agreedLines h decision lists i (suc k) =
+    let rest = agreedLines h decision lists (suc i) k in
+    cond (member i (h .faulty)) rest (printed i decision (lists i) rest)
+
+pub record PrintedAgreement (h : Head) (text : List ℕ) : Type 0 where
+  pub decision : ℕ
+  pub lists : ℕ → ℕ
+  -- the text is a line for each board outside F, all with one decision
+  pub prints : text ≡ agreedLines h decision lists 0 (h .n)
+  -- the dealer's value, if the dealer is outside F
+  pub dealers : member (h .dealer) (h .faulty) ≡ false → decision ≡ h .word
+  -- each list lies within F
+  pub sound : (i : ℕ) → i < h .n → member i (h .faulty) ≡ false → within (lists i) (h .faulty) ≡ true
+
+-- What the program bench prints for a sheet that is not turned down obeys demand 3.
+abbrev pub Printed : Type 0
+Printed = (text cells out : List ℕ) → playing text cells out .answer .number ≡ 0 → PrintedAgreement (reading text .head) (benchPrints text cells out)

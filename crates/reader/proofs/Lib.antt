@@ -1,0 +1,4 @@
+pub mod FrameLines
+pub mod WholeSheet
+pub mod Accepted
+pub mod FrameSearch

@@ -1,0 +1,92 @@
+// Finding a frame of a sheet.
+use crate::keys::key;
+use crate::keys::key_of;
+use plan::schedule::Round;
+use plan::schedule::Run;
+use text::lines::byte_at;
+use text::lines::line_end;
+use text::lines::values_of;
+ghost use mathlib.Core.Path.{_≡_};
+ghost use mathlib.Core.Option.{some};
+ghost use Prim.Native.Nat.{_/_, min};
+ghost use lib.ListN.{length};
+ghost use Rattle.protocol.specs.Playing.{findFrame};
+ghost use Rattle.text.specs.Text.{bytesFrom};
+ghost use Rattle.reader.specs.Places.{lineAfter, frameAt};
+ghost use Rattle.reader.specs.Reading.{framesFrom, foundSays, readLength, readValues};
+
+// A frame of the sheet: none, or how many of its values were read.
+pub enum Found {
+    Missing,
+    Values(usize),
+}
+
+// Where the line after the one at `at` begins.
+fn line_after(text: &[u8], at: usize) -> usize
+    ensures { λ r. ⌜ r ≡ lineAfter (now (text .entry)) at ⌝ }
+{
+    let end = line_end(text, at);
+    if end < text.len() {
+        return end + 1;
+    }
+    end
+}
+
+// Where the first frame line for a run, a round, a sender and a receiver begins, from `from` on; the end of the text if there is none.
+fn find_line(text: &[u8], from: usize, run: Run, round: Round, sender: u8, receiver: u8) -> usize
+    ensures { λ r. ⌜ frameAt (now (text .entry)) r ≡ findFrame run round sender receiver (framesFrom (now (text .entry)) from) ⌝ }
+{
+    let wanted = key(run.0, round.0, sender, receiver);
+    let mut at = from;
+    while at < text.len() {
+        let end = line_end(text, at);
+        if key_of(&text[at..end]) == wanted {
+            return at;
+        }
+        at = line_after(text, at);
+    }
+    at
+}
+
+// The smaller of two numbers.
+fn smaller(a: usize, b: usize) -> usize
+    ensures { λ r. ⌜ r ≡ min a b ⌝ }
+{
+    if a < b {
+        return a;
+    }
+    b
+}
+
+// As many values as the buffer takes.
+fn decode(digits: &[u8], values: &mut [u8]) -> usize
+    ensures { λ r. ⌜ (r ≡ min (length (now (digits .entry)) / 2) (length (now (values .entry)))) × (now (values .exit) ≡ readValues (some (bytesFrom (now (digits .entry)) 0 (length (now (digits .entry)) / 2))) (now (values .entry))) ⌝ }
+{
+    let count = smaller(digits.len() / 2, values.len());
+    let mut i: usize = 0;
+    while i < count {
+        values[i] = byte_at(digits, i);
+        i += 1;
+    }
+    i
+}
+
+// The values of the sheet's frame for a run, a round, a sender and a receiver.
+pub fn read_frame(
+    text: &[u8],
+    from: usize,
+    run: Run,
+    round: Round,
+    sender: u8,
+    receiver: u8,
+    values: &mut [u8],
+) -> Found
+    ensures { λ r. ⌜ (foundSays r ≡ readLength (findFrame run round sender receiver (framesFrom (now (text .entry)) from)) (length (now (values .entry)))) × (now (values .exit) ≡ readValues (findFrame run round sender receiver (framesFrom (now (text .entry)) from)) (now (values .entry))) ⌝ }
+{
+    let at = find_line(text, from, run, round, sender, receiver);
+    if text.len() <= at {
+        return Found::Missing;
+    }
+    let end = line_end(text, at);
+    Found::Values(decode(values_of(&text[at..end]), values))
+}

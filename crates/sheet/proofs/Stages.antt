@@ -1,0 +1,365 @@
+-- The boards on the stage are those of the session, after every step.
+-- Assumes nothing.
+use Prim.Native.Nat.{ℕ, zero, suc, _+_, _-_, _*_, _≤_, _<_}
+use mathlib.Core.Path.{_≡_, refl, sym, ap, ap₂, subst, _∙_}
+use mathlib.Core.Logic.{_≢_, _⊎_, inl, inr, ⊎-elim}
+use mathlib.Core.Bool.{Bool, true, false, not, _&&_, cond}
+use mathlib.Core.List.{List, [], _∷_}
+use mathlib.Core.Option.{Option, some, none}
+use native.Mathlib.Omega.{arith}
+use lib.Dec.{eqb, ltb}
+use lib.ListN.{length, getD, set, take, drop, replicate, length-set, length-replicate, getD-replicate}
+use lib.Seq.{getD-set-same, getD-set-other}
+use borrow.Author.Tests.{eqb-true, eqb-false, eq-eqb, ne-eqb, ltb-true, ltb-false, lt-ltb, le-ltb, lt-leb}
+use Rattle.sets.specs.Sets.{member}
+use Rattle.sets.proofs.Tests.{cases, clash, and-l, and-r, and-true, not-t, true-not}
+use Rattle.plan.specs.declared.plan.Plan.{Plan}
+use Rattle.plan.specs.Schedule.{steps, stepRun, stepRound}
+use Rattle.plan.specs.Outcome.{Outcome, taken, refused}
+use Rattle.plan.specs.Calls.{judged}
+use Rattle.plan.proofs.Outcomes.{taken-first}
+use Rattle.tree.specs.Places.{cellCount}
+use Rattle.sets.specs.Search.{any}
+use Rattle.protocol.specs.Nodes.{due}
+use Rattle.protocol.specs.Rounds.{Board}
+use Rattle.protocol.specs.Calls.{isTaken, voidRecord, judgeOpen, judgeSending, dealing, receiving, sending, frameOf, closing, beginning}
+use Rattle.protocol.specs.Session.{Adversary, Setting, boardAt, begun, hears, handIn, session, at}
+use Rattle.protocol.specs.Lists.{keeper, Sound}
+use Rattle.protocol.specs.Sheet.{Frame, headPlan}
+use Rattle.protocol.specs.Sheet as S
+use Rattle.protocol.specs.Playing.{findFrame, sheetAdversary, part, replacePart, setting, finalCells, finalBoards}
+use Rattle.protocol.proofs.Hearing.{hear}
+use Rattle.protocol.proofs.Synchronous.{at-start, at-next, told, keeper-facts}
+use Rattle.protocol.proofs.PartHeard.{MidStep, part-heard, cells-kept}
+use Rattle.protocol.proofs.Judgement.{Open, open-taken}
+use Rattle.protocol.proofs.Few.{sends, unsent}
+use Rattle.protocol.proofs.Fairness.{sending-gives}
+use Rattle.protocol.proofs.Sheets.{GoodHead, head-n, head-dealer, parts-most, part-length}
+use Rattle.text.specs.declared.head.Head.{Head}
+use Rattle.sheet.specs.declared.acting.Act.{Act}
+use Rattle.sheet.specs.declared.acting.Act.the-variants.{Begin, Hear, HearFaulty, Close}
+use Rattle.sheet.specs.Stage.{Stage, noRecord, boardOn, keeps, acted, putBoard, actAll, dealtFrame, frameFrom, hearSender, hearSenders, playSteps}
+use Rattle.sheet.proofs.Sender.{from-dealer, from-sender, heard-faulty}
+use Rattle.sheet.proofs.Parts.{replace, laid, laid-same, laid-own, laid-part, laid-replace}
+
+-- Nothing is due from the board to anybody: writing is refused.
+silent : (b : Board) (out : List ℕ) → Open b → any (λ i. due (b .rec .plan) (b .rec .board) i (b .rec .round)) (b .rec .plan .n) ≡ false
+    → sending b out .answer .number ≡ 16
+unfolding sending judgeSending
+silent b out o x =
+    let e : judgeSending b out ≡ refused 16 = taken-first (judgeOpen b) _ (ap (λ (y : Outcome). y .number) (open-taken b o)) ∙ rw x refl in
+    ap (λ (y : Outcome). y .number) e
+
+-- The head as the code has it.
+unfoldable pub codeHead : S.Head → Head
+codeHead h = record { plan = headPlan h; faulty = h .faulty; word = h .word }
+
+module _ (h : S.Head) (good : GoodHead h) (cells₀ : List ℕ) (room : 13699 ≤ length cells₀) where
+  abbrev s : Setting
+  s = setting h cells₀
+
+  abbrev n : ℕ
+  n = headPlan h .n
+
+  abbrev c : ℕ
+  c = cellCount n
+
+  few : n ≤ 7
+  few = subst (λ k. k ≤ 7) (sym (head-n h good)) (good .most-boards)
+
+  enough : n * c ≤ length cells₀
+  enough = omega (arith, parts-most n few)
+
+  kept-below : (i : ℕ) → keeper s i ≡ true → i < n
+  unfolding keeper setting
+  kept-below i k = ltb-true i n (and-l (ltb i n) _ k)
+
+  keeps-kept : (i : ℕ) → i < n → keeper s i ≡ keeps (codeHead h) i
+  unfolding keeper keeps codeHead setting
+  keeps-kept i l = rw (lt-ltb i n l) refl
+
+  -- The stage holds these boards.
+  pub record Holds (w : ℕ → Board) (st : Stage) : Type 0 where
+    pub recs : (i : ℕ) → keeper s i ≡ true → getD (st .recs) i noRecord ≡ w i .rec
+    pub seven : length (st .recs) ≡ 7
+    pub cells : st .cells ≡ laid (keeper s) c (λ i. w i .cells) n cells₀
+    pub sizes : (i : ℕ) → keeper s i ≡ true → length (w i .cells) ≡ c
+
+  pub holds-same : (w w′ : ℕ → Board) (st : Stage) → ((i : ℕ) → keeper s i ≡ true → w i ≡ w′ i) → Holds w st → Holds w′ st
+  holds-same w w′ st e x = record {
+    recs = λ i k. x .recs i k ∙ ap (λ (b : Board). b .rec) (e i k);
+    seven = x .seven;
+    cells = x .cells ∙ laid-same (keeper s) c (λ i. w i .cells) (λ i. w′ i .cells) n cells₀ (λ i _ k. ap (λ (b : Board). b .cells) (e i k));
+    sizes = λ i k. ap (λ (b : Board). length (b .cells)) (sym (e i k)) ∙ x .sizes i k;
+  }
+
+  -- A board on the stage.
+  pub look : (w : ℕ → Board) (st : Stage) → Holds w st → (i : ℕ) → keeper s i ≡ true → boardOn n st i ≡ w i
+  unfolding boardOn part
+  look w st x i k =
+      let e : take c (drop (i * c) (st .cells)) ≡ w i .cells =
+      ap (λ y. take c (drop (i * c) y)) (x .cells) ∙ laid-part (keeper s) c (λ j. w j .cells) (x .sizes) i n cells₀ (kept-below i k) k enough in
+      ap₂ (λ r y. record { rec = r; cells = y }) (x .recs i k) e
+
+  abbrev updated : (ℕ → Board) → ℕ → Board → ℕ → Board
+  updated w i b j = cond (eqb j i) b (w j)
+
+  -- One board is put in its place.
+  put : (w : ℕ → Board) (st : Stage) → Holds w st → (i : ℕ) (b : Board) → keeper s i ≡ true → length (b .cells) ≡ c
+      → Holds (updated w i b) (putBoard n i b st)
+  unfolding putBoard
+  put w st x i b k size = record {
+    recs = λ j kj.
+        cases (eqb j i)
+        (λ e. let same = eqb-true j i e in
+        ap (λ m. getD (set (st .recs) i (b .rec)) m noRecord) same
+        ∙ getD-set-same (st .recs) i (b .rec) noRecord (omega (arith, kept-below i k, few, x .seven)) ∙ rw e refl)
+        (λ e. getD-set-other (st .recs) i j (b .rec) noRecord (eqb-false j i e) ∙ x .recs j kj ∙ rw e refl);
+    seven = length-set (st .recs) i (b .rec) ∙ x .seven;
+    cells =
+        let w′ : ℕ → List ℕ = λ j. cond (eqb j i) (b .cells) (w j .cells) in
+        placed (x .cells)
+        ∙ laid-replace (keeper s) c (λ j. w j .cells) (x .sizes) i n (b .cells) cells₀ (kept-below i k) k size enough
+        ∙ laid-same (keeper s) c w′ (λ j. updated w i b j .cells) n cells₀ (λ j _ _. cases (eqb j i) (λ e. rw e refl) (λ e. rw e refl));
+    sizes = λ j kj. cases (eqb j i) (λ e. rw e size) (λ e. rw e (x .sizes j kj));
+  }
+    where
+      placed : st .cells ≡ laid (keeper s) c (λ j. w j .cells) n cells₀
+          → replacePart n i (b .cells) (st .cells) ≡ replace (i * c) c (b .cells) (laid (keeper s) c (λ j. w j .cells) n cells₀)
+      placed e = ap (replacePart n i (b .cells)) e ∙ unfold replacePart replace in refl
+
+  -- All boards act.
+  module _ (w : ℕ → Board) (st : Stage) (x : Holds w st) (act : Act) (fs : List Frame) (f : List ℕ) where
+    abbrev next : ℕ → Board
+    next i = acted (headPlan h) act fs f i (w i)
+
+    abbrev partly : ℕ → ℕ → Board
+    partly k i = cond (ltb i k) (next i) (w i)
+
+    abbrev staged : ℕ → Stage
+    staged k = actAll (codeHead h) act fs f k st
+
+    turned : (k : ℕ) → keeps (codeHead h) k ≡ true → staged (suc k) ≡ putBoard n k (acted (headPlan h) act fs f k (boardOn n (staged k) k)) (staged k)
+    unfolding actAll codeHead
+    turned k t = rw t refl
+
+    left : (k : ℕ) → keeps (codeHead h) k ≡ false → staged (suc k) ≡ staged k
+    unfolding actAll codeHead
+    left k t = rw t refl
+
+    acts-upto : ((i : ℕ) → keeper s i ≡ true → length (next i .cells) ≡ c) → (k : ℕ) → k ≤ n → Holds (partly k) (staged k)
+    acts-upto size zero l = unfold actAll in holds-same w (partly zero) st (λ i _. rw (le-ltb i 0 (omega arith)) refl) x
+    acts-upto size (suc k) l =
+        let before = acts-upto size k (omega arith) in
+        let here : partly k k ≡ w k = rw (le-ltb k k (omega arith)) refl in
+        cases (keeper s k)
+        (λ e. let b = acted (headPlan h) act fs f k (boardOn n (staged k) k) in
+        let b-is : b ≡ next k = ap (acted (headPlan h) act fs f k) (look (partly k) (staged k) before k e ∙ here) in
+        subst (Holds (partly (suc k))) (sym (turned k (sym (keeps-kept k (omega arith)) ∙ e)))
+        (holds-same (updated (partly k) k b) (partly (suc k)) (putBoard n k b (staged k))
+        (λ i _. cases (eqb i k)
+        (λ y. let same = eqb-true i k y in rw (y, lt-ltb i (suc k) (omega arith)) (b-is ∙ ap next (sym same)))
+        (λ y. let ne = eqb-false i k y in
+        cases (ltb i k)
+        (λ z. let less = ltb-true i k z in rw (y, z, lt-ltb i (suc k) (omega arith)) refl)
+        (λ z. let more = ltb-false i k z in rw (y, z, le-ltb i (suc k) (omega arith)) refl)))
+        (put (partly k) (staged k) before k b e (ap (λ (y : Board). length (y .cells)) b-is ∙ size k e))))
+        (λ e. subst (Holds (partly (suc k))) (sym (left k (sym (keeps-kept k (omega arith)) ∙ e)))
+        (holds-same (partly k) (partly (suc k)) (staged k)
+        (λ i ki. cases (ltb i k)
+        (λ z. let less = ltb-true i k z in rw (z, lt-ltb i (suc k) (omega arith)) refl)
+        (λ z. let more = ltb-false i k z in
+        let ne : i ≢ k = λ same. clash (ap (keeper s) (sym same) ∙ ki) e in
+        rw (z, le-ltb i (suc k) (omega (arith, ne))) refl))
+        before))
+
+    acts-all : ((i : ℕ) → keeper s i ≡ true → length (next i .cells) ≡ c) → Holds next (staged n)
+    acts-all size = holds-same (partly n) next (staged n) (λ i k. rw (lt-ltb i n (kept-below i k)) refl) (acts-upto size n (omega arith))
+
+  -- The session of a sheet's frames.
+  module _ (sound : Sound s) (fs : List Frame) where
+    abbrev a : Adversary
+    a = sheetAdversary h fs
+
+    abbrev start : Stage
+    start = record { recs = replicate 7 voidRecord; cells = cells₀ }
+
+    abbrev played : ℕ → Stage
+    played j = playSteps (codeHead h) fs j start
+
+    part-size : (i : ℕ) → keeper s i ≡ true → length (s .buffer i) ≡ c
+    unfolding setting
+    part-size i k =
+        ap (λ m. length (part m i cells₀)) (sym (head-n h good)) ∙ part-length n i cells₀ few (kept-below i k) room
+
+    at-size : (j i : ℕ) → keeper s i ≡ true → j ≤ steps (headPlan h) → length (at s a j i .cells) ≡ c
+    unfolding setting
+    at-size j i k l = cells-kept s a sound j i k l ∙ part-size i k
+
+    unbegun : ℕ → Board
+    unbegun i = record { rec = voidRecord; cells = part n i cells₀ }
+
+    start-holds : Holds unbegun start
+    unfolding unbegun part
+    start-holds = record {
+      recs = λ i k. getD-replicate 7 i voidRecord noRecord (omega (arith, kept-below i k, few));
+      seven = refl;
+      cells = sym (laid-own (keeper s) c n cells₀);
+      sizes = λ i k. part-length n i cells₀ few (kept-below i k) room;
+    }
+
+    begin-is : (i : ℕ) → keeper s i ≡ true → acted (headPlan h) Begin fs [] i (unbegun i) ≡ at s a 0 i
+    unfolding acted unbegun begun setting
+    begin-is i k =
+        ap (λ m. beginning (headPlan h) i (part m i cells₀) .board) (head-n h good) ∙ sym (at-start s a i (kept-below i k))
+
+    begun-holds : Holds (at s a 0) (played 0)
+    unfolding playSteps codeHead
+    begun-holds =
+        holds-same _ (at s a 0) (played 0) begin-is
+        (acts-all unbegun start start-holds Begin fs [] (λ i k. ap (λ (b : Board). length (b .cells)) (begin-is i k) ∙ at-size 0 i k (omega arith)))
+
+    -- In step j: what board i hears from the boards below q.
+    module _ (j : ℕ) (inside : j < steps (headPlan h)) where
+      abbrev heard : ℕ → ℕ → Board
+      heard q i = hear (told s a i j) (at s a j i) q
+
+      mid : (q i : ℕ) → q ≤ n → keeper s i ≡ true → MidStep s a j i (heard q i)
+      unfolding setting
+      mid q i l k = part-heard s a sound j i q k inside l
+
+      heard-size : (q i : ℕ) → q ≤ n → keeper s i ≡ true → length (heard q i .cells) ≡ c
+      heard-size q i l k = mid q i l k .size ∙ at-size j i k (omega arith)
+
+      told-faulty : (q i : ℕ) → q < n → keeper s i ≡ true → member q (h .faulty) ≡ true
+          → acted (headPlan h) (HearFaulty q) fs [] i (heard q i) ≡ heard (suc q) i
+      unfolding acted hear hears setting sheetAdversary
+      told-faulty q i l k e =
+          let m = mid q i (omega arith) k in
+          rw e (ap (λ x. handIn q x (heard q i))
+          (ap₂ (λ t u. findFrame t u q (heard q i .rec .board) fs) (m .run) (m .round) ∙ ap (λ b. findFrame (stepRun (headPlan h) (suc j)) (stepRound (headPlan h) (suc j)) q b fs) (m .board)))
+
+      -- The dealer's frame.
+      dealt-is : member (headPlan h .dealer) (h .faulty) ≡ false → dealing (headPlan h) (h .word) ≡ taken (h .word ∷ [])
+      unfolding dealing setting
+      dealt-is e =
+          let below = sound .word-below e in
+          taken-first (judged (headPlan h)) _ (sound .accepted) ∙ rw (lt-leb (headPlan h .span) (h .word) below) refl
+
+      told-dealer : (q i : ℕ) (f : List ℕ) → member q (h .faulty) ≡ false → q ≡ headPlan h .dealer → f ≡ dealtFrame (codeHead h)
+          → acted (headPlan h) (Hear q) fs f i (heard q i) ≡ heard (suc q) i
+      unfolding acted hear hears setting handIn dealtFrame codeHead isTaken
+      told-dealer q i f e d ef =
+          let t = dealt-is (subst (λ x. member x (h .faulty) ≡ false) d e) in
+          let f-is : f ≡ dealing (headPlan h) (h .word) .values = ef ∙ ap (λ o. cond (isTaken o) (o .values) []) t ∙ sym (ap (λ (o : Outcome). o .values) t) in
+          rw (e, eq-eqb q (headPlan h .dealer) d) (ap (λ x. receiving (heard q i) q x .board) f-is)
+
+      -- The frame of a board that keeps cells.
+      written : (q : ℕ) (b : Board) → Open b → q ≢ headPlan h .dealer
+          → (frameFrom (codeHead h) q b ≡ frameOf b) ⊎ (sending b (replicate 121 0) .answer .number ≢ 0)
+      unfolding codeHead
+      written q b o ne =
+          let r = b .rec in
+          let out = replicate {A = ℕ} 121 0 in
+          cases (any (λ i. due (r .plan) (r .board) i (r .round)) (r .plan .n))
+          (λ x. let t = sends b out o (omega (arith, length-replicate {A = ℕ} 121 0)) x in
+          inl (sym (from-sender (codeHead h) q b (length (frameOf b)) out ne refl (sym t)) ∙ sending-gives b out (length (frameOf b)) t))
+          (λ x. inr (λ z. let y : ⊥ = omega (arith, sym (silent b out o x) ∙ z) in y))
+
+      told-keeper : (q i : ℕ) (f : List ℕ) → keeper s q ≡ true → keeper s i ≡ true → f ≡ frameFrom (codeHead h) q (heard q q)
+          → acted (headPlan h) (Hear q) fs f i (heard q i) ≡ heard (suc q) i
+      unfolding acted hear hears setting handIn at
+      told-keeper q i f kq ki ef =
+          let (below, e, d) = keeper-facts s a sound q kq in
+          let mq = mid q q (omega arith) kq in
+          let mi = mid q i (omega arith) ki in
+          let g = frameOf (at s a j q) in
+          rw (e, ne-eqb q (headPlan h .dealer) d)
+          (⊎-elim
+          (λ x. ap (λ y. receiving (heard q i) q y .board) (ef ∙ x ∙ mq .sends))
+          (λ x. nothing q i f kq ki x ∙ sym (nothing q i g kq ki x))
+          (written q (heard q q) (mq .opened) d))
+        where
+          nothing : (q i : ℕ) (y : List ℕ) → keeper s q ≡ true → keeper s i ≡ true → sending (heard q q) (replicate 121 0) .answer .number ≢ 0
+              → receiving (heard q i) q y .board ≡ heard q i
+          nothing q i y kq ki x =
+              let (below, _, _) = keeper-facts s a sound q kq in
+              let mq = mid q q (omega arith) kq in
+              let mi = mid q i (omega arith) ki in
+              subst (λ b. receiving (heard q i) b y .board ≡ heard q i) (mq .board)
+              (unsent (heard q q) (heard q i) (replicate 121 0) y (mq .opened) (omega (arith, length-replicate {A = ℕ} 121 0)) (mi .plan ∙ sym (mq .plan)) (mi .round ∙ sym (mq .round)) x)
+
+      -- Every board has heard one board more.
+      sender-holds : (q : ℕ) (st : Stage) → q < n → Holds (heard q) st → Holds (heard (suc q)) (hearSender (codeHead h) fs q st)
+      sender-holds q st l x =
+          cases (member q (h .faulty))
+          (λ e. subst (Holds (heard (suc q))) (faulty-sender q st e)
+          (holds-same _ (heard (suc q)) _ (λ i k. told-faulty q i l k e)
+          (acts-all (heard q) st x (HearFaulty q) fs [] (λ i k. ap (λ (b : Board). length (b .cells)) (told-faulty q i l k e) ∙ heard-size (suc q) i l k))))
+          (λ e. let f = frameFrom (codeHead h) q (boardOn n st q) in
+          let same : (i : ℕ) → keeper s i ≡ true → acted (headPlan h) (Hear q) fs f i (heard q i) ≡ heard (suc q) i = λ i k. told-healthy q i st l x e k in
+          subst (Holds (heard (suc q))) (healthy-sender q st e)
+          (holds-same _ (heard (suc q)) _ same
+          (acts-all (heard q) st x (Hear q) fs f (λ i k. ap (λ (b : Board). length (b .cells)) (same i k) ∙ heard-size (suc q) i l k))))
+        where
+          faulty-sender : (q : ℕ) (st : Stage) → member q (h .faulty) ≡ true → actAll (codeHead h) (HearFaulty q) fs [] n st ≡ hearSender (codeHead h) fs q st
+          faulty-sender q st e = unfold codeHead in heard-faulty (codeHead h) fs q st e
+
+          healthy-sender : (q : ℕ) (st : Stage) → member q (h .faulty) ≡ false
+              → actAll (codeHead h) (Hear q) fs (frameFrom (codeHead h) q (boardOn n st q)) n st ≡ hearSender (codeHead h) fs q st
+          healthy-sender q st e = unfold codeHead hearSender in rw e refl
+
+          told-healthy : (q i : ℕ) (st : Stage) → q < n → Holds (heard q) st → member q (h .faulty) ≡ false → keeper s i ≡ true
+              → acted (headPlan h) (Hear q) fs (frameFrom (codeHead h) q (boardOn n st q)) i (heard q i) ≡ heard (suc q) i
+          told-healthy q i st l x e k =
+              cases (eqb q (headPlan h .dealer))
+              (λ d. let same = eqb-true q (headPlan h .dealer) d in
+              told-dealer q i (frameFrom (codeHead h) q (boardOn n st q)) e same (unfold codeHead in sym (from-dealer (codeHead h) q (boardOn n st q) same)))
+              (λ d. let kq : keeper s q ≡ true = unfold keeper setting in rw (lt-ltb q n l, e, d) refl in
+              told-keeper q i (frameFrom (codeHead h) q (boardOn n st q)) kq k (ap (frameFrom (codeHead h) q) (look (heard q) st x q kq)))
+
+      heard-holds : (st : Stage) → Holds (at s a j) st → (q : ℕ) → q ≤ n → Holds (heard q) (hearSenders (codeHead h) fs q st)
+      unfolding hearSenders hear
+      heard-holds st x zero l = x
+      heard-holds st x (suc q) l = sender-holds q (hearSenders (codeHead h) fs q st) l (heard-holds st x q (omega arith))
+
+      closed-is : (i : ℕ) → keeper s i ≡ true → acted (headPlan h) Close fs [] i (heard n i) ≡ at s a (suc j) i
+      unfolding acted setting
+      closed-is i k = sym (at-next s a i j (kept-below i k))
+
+      step-holds : Holds (at s a j) (played j) → Holds (at s a (suc j)) (played (suc j))
+      unfolding playSteps codeHead
+      step-holds x =
+          holds-same _ (at s a (suc j)) (played (suc j)) closed-is
+          (acts-all (heard n) (hearSenders (codeHead h) fs n (played j)) (heard-holds (played j) x n (omega arith)) Close fs []
+          (λ i k. ap (λ (b : Board). length (b .cells)) (closed-is i k) ∙ at-size (suc j) i k inside))
+
+    played-holds : (j : ℕ) → j ≤ steps (headPlan h) → Holds (at s a j) (played j)
+    played-holds zero l = begun-holds
+    played-holds (suc j) l = step-holds j l (played-holds j (omega arith))
+
+    pub final-stage : Holds (at s a (steps (headPlan h))) (played (steps (headPlan h)))
+    final-stage = played-holds (steps (headPlan h)) (omega arith)
+
+    -- The cells at the end.
+    final-laid : (k : ℕ) → k ≤ n → laid (keeper s) c (λ i. at s a (steps (headPlan h)) i .cells) k cells₀ ≡ finalCells h (finalBoards h fs cells₀) k cells₀
+    unfolding laid finalCells finalBoards keeper setting at replacePart replace
+    final-laid zero l = refl
+    final-laid (suc k) l =
+        let rest = final-laid k (omega arith) in
+        let w = finalBoards h fs cells₀ in
+        cases (member k (h .faulty))
+        (λ e. rw (e, lt-ltb k n l) rest)
+        (λ e. cases (eqb k (h .dealer))
+        (λ d. let d′ : eqb k (headPlan h .dealer) ≡ true = ap (eqb k) (head-dealer h good) ∙ d in rw (e, d, d′, lt-ltb k n l) rest)
+        (λ d. let d′ : eqb k (headPlan h .dealer) ≡ false = ap (eqb k) (head-dealer h good) ∙ d in
+        rw (e, d, d′, lt-ltb k n l)
+        (ap (replace (k * c) c (boardAt w k .cells)) rest ∙ ap (λ m. replacePart m k (boardAt w k .cells) (finalCells h w k cells₀)) (head-n h good))))
+
+    pub final-cells : played (steps (headPlan h)) .cells ≡ finalCells h (finalBoards h fs cells₀) (h .n) cells₀
+    final-cells =
+        final-stage .cells ∙ final-laid n (omega arith) ∙ ap (λ k. finalCells h (finalBoards h fs cells₀) k cells₀) (head-n h good)
+
+    pub final-record : (i : ℕ) → keeper s i ≡ true → getD (played (steps (headPlan h)) .recs) i noRecord ≡ boardAt (finalBoards h fs cells₀) i .rec
+    unfolding finalBoards at
+    final-record i k = final-stage .recs i k

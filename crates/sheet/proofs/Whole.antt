@@ -1,0 +1,117 @@
+-- A whole sheet: what the code has in hand is what playing leaves.
+-- Assumes nothing.
+use Prim.Native.Nat.{ℕ, zero, suc, _+_, _-_, _*_, _≤_, _<_}
+use mathlib.Core.Path.{_≡_, refl, sym, ap, ap₂, subst, _∙_}
+use mathlib.Core.Logic.{_≢_}
+use mathlib.Core.Bool.{true, false, cond}
+use mathlib.Core.List.{List, [], _∷_, _++_}
+use native.Mathlib.Omega.{arith}
+use lib.Dec.{eqb, ltb}
+use lib.ListN.{length, getD, drop, replicate}
+use borrow.Author.Tests.{eq-eqb, ne-eqb, lt-ltb, le-ltb}
+use Rattle.sets.specs.Sets.{member}
+use Rattle.plan.specs.Schedule.{steps}
+use Rattle.plan.specs.Outcome.{Outcome, taken, refused, verdict}
+use Rattle.tree.specs.Places.{cellCount}
+use Rattle.protocol.specs.declared.records.Record.{Record}
+use Rattle.protocol.specs.Calls.{voidRecord}
+use Rattle.protocol.specs.Session.{boardAt}
+use Rattle.protocol.specs.Lists.{keeper}
+use Rattle.protocol.specs.Sheet.{headPlan, wrongAt, reading}
+use Rattle.protocol.specs.Sheet as S
+use Rattle.protocol.specs.Playing.{setting, finalBoards, printBoards, Play, refusedPlay, playHead, playing}
+use Rattle.protocol.proofs.Sheets.{GoodHead, sheet-head, sheet-sound, head-n, head-dealer, parts-most}
+use Rattle.text.specs.declared.head.Head.{Head}
+use Rattle.reader.specs.declared.judging.Judged.{Judged}
+use Rattle.reader.specs.Reading.{judgedSays}
+use Rattle.printer.specs.Printed.{boardLines}
+use Rattle.printer.proofs.BoardLines.{lines-played}
+use Rattle.sheet.specs.Stage.{Stage, Roomy, noRecord, playSteps}
+use Rattle.sheet.proofs.Stages.{codeHead, Holds, final-stage, final-cells, final-record}
+
+in-list : (l : List Record) (i : ℕ) (d e : Record) → i < length l → getD l i d ≡ getD l i e
+in-list [] i d e h = absurd (omega arith)
+in-list (r ∷ rs) zero d e h = refl
+in-list (r ∷ rs) (suc i) d e h = in-list rs i d e (omega arith)
+
+-- A sheet that is accepted.
+module _ (text cells out : List ℕ) (ok : reading text .answer .number ≡ 0) (room : 13699 ≤ length cells) (wide : 49 ≤ length out) where
+  abbrev h : S.Head
+  h = reading text .head
+
+  abbrev fs : List S.Frame
+  fs = reading text .frames
+
+  abbrev good : GoodHead h
+  good = sheet-head text ok
+
+  pub head-roomy : Roomy (codeHead h) cells
+  unfolding codeHead
+  head-roomy =
+      let few = subst (λ k. k ≤ 7) (sym (head-n h good)) (good .most-boards) in
+      (few, omega (arith, parts-most (headPlan h .n) few))
+
+  -- The stage at the end.
+  abbrev pub ended : Stage
+  ended = playSteps (codeHead h) fs (steps (headPlan h)) (record { recs = replicate 7 voidRecord; cells = cells })
+
+  lines-are : boardLines (h .n) (h .dealer) (h .faulty) (h .word) (ended .recs) out ≡ printBoards h (finalBoards h fs cells) 0 (h .n)
+  unfolding keeper setting
+  lines-are =
+      lines-played h (finalBoards h fs cells) (ended .recs) out (good .most-boards) wide
+      (λ i l f d.
+      let below : i < headPlan h .n = subst (λ k. i < k) (sym (head-n h good)) l in
+      let other : i ≢ headPlan h .dealer = λ e. d (e ∙ head-dealer h good) in
+      let kept : keeper (setting h cells) i ≡ true = rw (lt-ltb i (headPlan h .n) below, f, ne-eqb i (headPlan h .dealer) other) refl in
+      let seven = final-stage h good cells room (sheet-sound text cells ok room) fs .seven in
+      in-list (ended .recs) i voidRecord noRecord (omega (arith, seven, good .most-boards))
+      ∙ final-record h good cells room (sheet-sound text cells ok room) fs i kept)
+
+  -- What the code leaves, from the head and the frames that it has read.
+  pub sheet-played : (hd : Head) (st : Stage) (lines : List ℕ) → hd ≡ codeHead h → st ≡ ended
+      → lines ≡ boardLines (hd .plan .n) (hd .plan .dealer) (hd .faulty) (hd .word) (st .recs) out
+      → _≡_ {A = Play} (record { answer = taken (length lines ∷ []); cells = st .cells; out = lines ++ drop (length lines) out }) (playHead h fs cells out)
+  unfolding playHead codeHead
+  sheet-played hd st lines eh es el =
+      let e : lines ≡ printBoards h (finalBoards h fs cells) 0 (h .n) =
+      el ∙ ap₂ (λ (x : Head) (y : Stage). boardLines (x .plan .n) (x .plan .dealer) (x .faulty) (x .word) (y .recs) out) eh es
+      ∙ ap₂ (λ a b. boardLines a b (h .faulty) (h .word) (ended .recs) out) (head-n h good) (head-dealer h good) ∙ lines-are in
+      let z : st .cells ≡ playHead h fs cells out .cells = ap (λ (y : Stage). y .cells) es ∙ final-cells h good cells room (sheet-sound text cells ok room) fs in
+      ap₂ (λ (x : List ℕ) (y : List ℕ). record { answer = taken (length x ∷ []); cells = y; out = x ++ drop (length x) out }) e z
+
+-- The judgements before a sheet is read, and its reading.
+module _ (text cells out : List ℕ) where
+  pub too-long : 65536 < length text → refusedPlay (wrongAt 0 (refused 20)) cells out ≡ playing text cells out
+  unfolding playing
+  too-long l = rw (lt-ltb 65536 (length text) l) refl
+
+  pub short-output : length text ≤ 65536 → length out < 49 → refusedPlay (wrongAt 0 (refused 17)) cells out ≡ playing text cells out
+  unfolding playing
+  short-output a l = rw (le-ltb 65536 (length text) a, lt-ltb (length out) 49 l) refl
+
+  pub short-cells : length text ≤ 65536 → 49 ≤ length out → length cells < 13699 → refusedPlay (wrongAt 0 (refused 11)) cells out ≡ playing text cells out
+  unfolding playing
+  short-cells a b l = rw (le-ltb 65536 (length text) a, le-ltb (length out) 49 b, lt-ltb (length cells) 13699 l) refl
+
+  module _ (a : length text ≤ 65536) (b : 49 ≤ length out) (c : 13699 ≤ length cells) where
+    pub sheet-refused : (o : Outcome) → o ≡ reading text .answer → o .number ≢ 0 → refusedPlay o cells out ≡ playing text cells out
+    unfolding playing
+    sheet-refused o e ne =
+        ap (λ x. refusedPlay x cells out) e
+        ∙ rw (le-ltb 65536 (length text) a, le-ltb (length out) 49 b, le-ltb (length cells) 13699 c, ne-eqb (reading text .answer .number) 0 (λ z. ne (ap (λ (x : Outcome). x .number) e ∙ z))) refl
+
+    pub sheet-accepted : reading text .answer .number ≡ 0 → playHead (reading text .head) (reading text .frames) cells out ≡ playing text cells out
+    unfolding playing
+    sheet-accepted e =
+        rw (le-ltb 65536 (length text) a, le-ltb (length out) 49 b, le-ltb (length cells) 13699 c, eq-eqb (reading text .answer .number) 0 e) refl
+
+-- The verdict on a sheet.
+module _ (j : Judged) (text : List ℕ) (e : judgedSays j ≡ reading text .answer) where
+  pub judged-refused : (o : Outcome) → o ≡ verdict (j .verdict) → o .number ≢ 0 → wrongAt (j .line) o ≡ reading text .answer
+  unfolding judgedSays
+  judged-refused o eo ne = ap (wrongAt (j .line)) eo ∙ rw (ne-eqb (verdict (j .verdict) .number) 0 (λ z. ne (ap (λ (x : Outcome). x .number) eo ∙ z))) at e
+
+  pub judged-accepted : taken [] ≡ verdict (j .verdict) → reading text .answer .number ≡ 0
+  unfolding judgedSays
+  judged-accepted eo =
+      ap (λ (x : Outcome). x .number) (sym e ∙ ap (λ o. cond (eqb (o .number) 0) o (wrongAt (j .line) o)) (sym eo))

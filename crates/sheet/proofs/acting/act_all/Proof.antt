@@ -1,0 +1,188 @@
+use Rattle.sheet.proofs.acting.act_all.Statement.{statement}
+use Rattle.sheet.proofs.acting.act_all.Tie as tie
+use Rattle.sheet.proofs.acting.act_all.Reads as reads
+use Rattle.sheet.proofs.acting.act_all.Lts as lts
+use Rattle.sheet.proofs.acting.act_one.Reads as act-one-reads
+use Rattle.sheet.proofs.acting.is_keeper.Reads as is-keeper-reads
+use Rattle.tree.proofs.levels.cell_count.Reads as cell-count-reads
+use Prim.Native.Nat.{ℕ, _+_, _-_, _*_, _≤_, _<_}
+use mathlib.Core.Path.{_≡_, refl, sym, ap, ap₂, subst, _∙_}
+use mathlib.Core.Bool.{true, false}
+use mathlib.Core.Logic.{⊎-elim}
+use native.Mathlib.Omega.{arith}
+use lib.ListN.{length}
+use borrow.Author.Needs.{needs}
+use Rattle.tree.specs.Places.{cellCount}
+use Rattle.protocol.specs.Calls.{voidRecord}
+use Rattle.reader.specs.Reading.{framesFrom}
+use Rattle.sheet.specs.Stage.{Stage, actAll}
+use Rattle.tree.proofs.Within.{count-within}
+use Rattle.sheet.proofs.Parts.{parts-within}
+use Rattle.sheet.proofs.Turn.{length-lent, turn, turn-left}
+
+abbrev Inv-loop : tie.InvT-loop
+Inv-loop head act text from frame cells₀ plan n size all₀ i₀ cells all i =
+    (i ≤ n) × (_≡_ {A = Stage} (record { recs = all; cells = cells }) (actAll head act (framesFrom text from) frame i (record { recs = all₀; cells = cells₀ }))) × (length cells ≡ length cells₀)
+
+abbrev μ-loop : tie.MeasureT-loop
+μ-loop head act text from frame cells₀ plan n size all₀ i₀ cells all i = n - i
+
+-- src/acting.rt:109:9
+cell-count-requires : tie.Need-cell-count-requires Inv-loop μ-loop
+cell-count-requires c κs = search needs
+
+-- src/acting.rt:112:5
+loop-holds : tie.Need-loop-holds Inv-loop μ-loop
+unfolding actAll
+loop-holds c = (search needs, refl, refl)
+
+-- src/acting.rt:113:12
+is-keeper-requires : tie.Need-is-keeper-requires Inv-loop μ-loop
+is-keeper-requires c κs = search needs
+
+-- src/acting.rt:114:21
+cast-a : tie.Need-cast-a Inv-loop μ-loop
+cast-a c = search needs
+
+-- src/acting.rt:114:21
+mul-a : tie.Need-mul-a Inv-loop μ-loop
+mul-a c =
+    let s = c .before .before .before .before .before .before .before .before .before in
+    let a = s .args in
+    let l = c .before .before .before .loop in
+    let z = c .before .before .before .before .cell-count in
+    let y : z .result ≡ cellCount (a.head .plan .n) = z .ensures ∙ count-within (a.head .plan .n) (omega arith) (s .pre .0) in
+    let k : (a.head .plan .n) * z .result ≤ length (a.cells .now) = subst (λ x. (a.head .plan .n) * x ≤ length (a.cells .now)) (sym y) (s .pre .1) in
+    record { fits = omega (arith, parts-within l.i (a.head .plan .n) (z .result) (omega arith), k) }
+
+-- src/acting.rt:115:21
+add-e : tie.Need-add-e Inv-loop μ-loop
+add-e c =
+    let s = c .before .before .before .before .before .before .before .before .before in
+    let a = s .args in
+    let l = c .before .before .before .loop in
+    let z = c .before .before .before .before .cell-count in
+    let y : z .result ≡ cellCount (a.head .plan .n) = z .ensures ∙ count-within (a.head .plan .n) (omega arith) (s .pre .0) in
+    let k : (a.head .plan .n) * z .result ≤ length (a.cells .now) = subst (λ x. (a.head .plan .n) * x ≤ length (a.cells .now)) (sym y) (s .pre .1) in
+    record { fits = omega (arith, parts-within l.i (a.head .plan .n) (z .result) (omega arith), k) }
+
+-- src/acting.rt:116:25
+cast-r : tie.Need-cast-r Inv-loop μ-loop
+cast-r c = search needs
+
+-- src/acting.rt:116:21
+mul-r : tie.Need-mul-r Inv-loop μ-loop
+mul-r c = search needs
+
+-- src/acting.rt:116:21
+array-copy-out-r : tie.Need-array-copy-out-r Inv-loop μ-loop
+array-copy-out-r c = search needs
+
+-- src/acting.rt:117:68
+sub-act-one : tie.Need-sub-act-one Inv-loop μ-loop
+sub-act-one c = search needs
+
+-- src/acting.rt:117:68
+part-act-one-start : tie.Need-part-act-one-start Inv-loop μ-loop
+part-act-one-start c = search needs
+
+-- src/acting.rt:117:68
+part-act-one-end : tie.Need-part-act-one-end Inv-loop μ-loop
+part-act-one-end c =
+    let s = c .before .before .before .before .before .before .before .before .before .before in
+    let a = s .args in
+    let l = c .before .before .before .before .loop in
+    let z = c .before .before .before .before .before .cell-count in
+    let y : z .result ≡ cellCount (a.head .plan .n) = z .ensures ∙ count-within (a.head .plan .n) (omega arith) (s .pre .0) in
+    let k : (a.head .plan .n) * z .result ≤ length (a.cells .now) = subst (λ x. (a.head .plan .n) * x ≤ length (a.cells .now)) (sym y) (s .pre .1) in
+    omega (arith, parts-within l.i (a.head .plan .n) (z .result) (omega arith), k, l .inv .2)
+
+-- src/acting.rt:117:17
+act-one-requires : tie.Need-act-one-requires Inv-loop μ-loop
+act-one-requires c κs = search needs
+
+-- src/acting.rt:118:17
+cast-all : tie.Need-cast-all Inv-loop μ-loop
+cast-all c = search needs
+
+-- src/acting.rt:118:13
+mul-all : tie.Need-mul-all Inv-loop μ-loop
+mul-all c = search needs
+
+-- src/acting.rt:118:13
+array-set-from-all : tie.Need-array-set-from-all Inv-loop μ-loop
+array-set-from-all c = search needs
+
+-- src/acting.rt:120:9
+add-i : tie.Need-add-i Inv-loop μ-loop
+add-i c = search needs
+
+-- src/acting.rt:112:5
+loop-less : tie.Need-loop-less Inv-loop μ-loop
+loop-less c = search needs
+
+-- src/acting.rt:112:5
+loop-again : tie.Need-loop-again Inv-loop μ-loop
+loop-again c = let s = c .before .before .before .before .before .before .before .before .before in
+    let a = s .args in
+    let l = c .before .before .before .loop in
+    let z = c .before .before .before .before .cell-count in
+    let y : z .result ≡ cellCount (a.head .plan .n) = z .ensures ∙ count-within (a.head .plan .n) (omega arith) (s .pre .0) in
+    let fs = framesFrom (a.text .now) a.from in
+    let t : Stage = record { recs = a.records; cells = a.cells .now } in
+    let test = c .before .is-keeper .ensures in
+    ⊎-elim
+    (λ w. let d = w .3 in
+    let ys = d .last .1 .1 .1 .1 .1 .1 .1 .0 in (
+      omega arith,
+      ap₂ (λ u v. record { recs = u; cells = v }) (w .7) (w .6)
+          ∙ turn a.head a.act fs (a.frame .now) t l.i l.all l.cells (z .result) y (d .result) ys (l .inv .1) (sym test ∙ w .0 .taken) (d .ensures .0) (d .ensures .1),
+      ap length (w .6) ∙ length-lent l.cells ys (l.i * z .result) (l.i * z .result + z .result - l.i * z .result) (d .kept .1 .1 .1 .1 .1 .1 .1 .0) ∙ l .inv .2,
+    ))
+    (λ w. (
+      omega arith,
+      ap₂ (λ u v. record { recs = u; cells = v }) (w .2) (w .1)
+          ∙ turn-left a.head a.act fs (a.frame .now) t l.i (record { recs = l.all; cells = l.cells }) (l .inv .1) (sym test ∙ w .0 .left),
+      ap length (w .1) ∙ l .inv .2,
+    ))
+    (c .if1 .came)
+
+-- src/acting.rt:95:1
+same-length : tie.Need-same-length Inv-loop μ-loop
+same-length c = c .before .loop .inv .2
+
+-- src/acting.rt:95:1
+returns : tie.Need-returns Inv-loop μ-loop
+returns c =
+    let a = c .before .before .before .before .before .before .before .args in
+    let l = c .before .loop in
+    let e = l .inv .1 ∙ ap (λ m. actAll a.head a.act (framesFrom (a.text .now) a.from) (a.frame .now) m (record { recs = a.records; cells = a.cells .now })) (let h : l.i ≡ a.head .plan .n = omega arith in h) in
+    (ap (λ x. x .recs) e, ap (λ x. x .cells) e)
+
+pub act-all-spec : {M : Type 1} → statement M
+act-all-spec =
+    tie.close
+    (tie.spec
+    Inv-loop
+    μ-loop
+    cell-count-requires
+    loop-holds
+    is-keeper-requires
+    cast-a
+    mul-a
+    add-e
+    cast-r
+    mul-r
+    array-copy-out-r
+    sub-act-one
+    part-act-one-start
+    part-act-one-end
+    act-one-requires
+    cast-all
+    mul-all
+    array-set-from-all
+    add-i
+    loop-less
+    loop-again
+    same-length
+    returns)

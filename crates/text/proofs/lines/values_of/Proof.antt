@@ -1,0 +1,52 @@
+-- `values_of` meets its contract.
+-- Assumes nothing.
+use Prim.Native.Nat.{_-_, _≤_}
+use mathlib.Core.Path.{_≡_, sym, ap, _∙_}
+use native.Mathlib.Omega.{arith}
+use lib.ListN.{length, take, drop, drop-of-length-le, length-drop}
+use borrow.Author.Needs.{needs}
+use Rattle.protocol.specs.Rounds.{close}
+use lib.Seq.{take-all}
+use Rattle.text.proofs.lines.values_of.Statement.{statement}
+use Rattle.text.proofs.lines.values_of.Tie as tie
+
+sub-result : tie.Need-sub-result
+sub-result c = search needs
+
+part-result-start : tie.Need-part-result-start
+part-result-start c = search needs
+
+part-result-end : tie.Need-part-result-end
+part-result-end c = search needs
+
+returns : tie.Need-returns
+returns c =
+    let line = c .before .before .args .line .now in
+    ap (λ m. take m (drop (length line) line)) (let z : length line - length line ≡ 0 = omega arith in z) ∙ sym (drop-of-length-le line {i = 8} (omega arith))
+
+sub-result-2 : tie.Need-sub-result-2
+sub-result-2 c = search needs
+
+part-result-start-2 : tie.Need-part-result-start-2
+part-result-start-2 c = search needs
+
+part-result-end-2 : tie.Need-part-result-end-2
+part-result-end-2 c = search needs
+
+returns-2 : tie.Need-returns-2
+returns-2 c =
+    let line = c .before .before .args .line .now in
+    take-all (length line - 8) (drop 8 line) (let z : length (drop 8 line) ≤ length line - 8 = omega (arith, length-drop 8 line) in z)
+
+pub values-of-spec : {M : Type 1} → statement M
+values-of-spec =
+    tie.close
+    (tie.spec
+    sub-result
+    part-result-start
+    part-result-end
+    returns
+    sub-result-2
+    part-result-start-2
+    part-result-end-2
+    returns-2)

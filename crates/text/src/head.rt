@@ -1,0 +1,115 @@
+// The head of a sheet: n, m, d, b, the dealer's value, s, then s sets, then the faulty boards.
+use crate::lines::byte_at;
+use plan::plan::Plan;
+use plan::refusal::Refusal;
+use plan::refusal::Verdict;
+use plan::refusal::first_of;
+use sets::boards::all_boards;
+use sets::boards::subset;
+use sets::structure::is_tolerated;
+ghost use mathlib.Core.Path.{_≡_};
+ghost use mathlib.Core.Bool.{_&&_, cond};
+ghost use mathlib.Core.List.{[], _++_};
+ghost use Prim.Native.Nat.{_-_, _/_, min};
+ghost use lib.Dec.{leb};
+ghost use lib.ListN.{length, replicate};
+ghost use Rattle.sets.specs.Sets.{within, boards};
+ghost use Rattle.sets.specs.Structure.{tolerated};
+ghost use Rattle.plan.specs.Outcome.{taken, refused, verdict};
+ghost use Rattle.protocol.specs.Sheet.{judgeHead};
+ghost use Rattle.text.specs.Text.{bytesFrom, headFrom};
+
+// The sets of a head, in 255 slots.
+fn sets_of(line: &[u8], count: u8) -> [u8; 255]
+    ensures { λ r. ⌜ r ≡ bytesFrom (now (line .entry)) 6 count ++ replicate (255 - count) 0 ⌝ }
+{
+    let mut sets = [0u8; 255];
+    let mut k: u8 = 0;
+    while k < count {
+        sets[k as usize] = byte_at(line, k as usize + 6);
+        k += 1;
+    }
+    sets
+}
+
+// The dealer's value: 18.
+fn judge_word(span: u8, word: u8) -> Verdict
+    ensures { λ v. ⌜ verdict v ≡ cond (leb span word) (refused 18) (taken []) ⌝ }
+{
+    if span <= word {
+        return Verdict::Refused(Refusal::BadValue);
+    }
+    Verdict::Accepted
+}
+
+// The faulty boards: 23.
+fn judge_faulty(n: u8, sets: &[u8], faulty: u8) -> Verdict
+    ensures { λ v. ⌜ verdict v ≡ cond (within faulty (boards (min n 8)) && tolerated (now (sets .entry)) faulty) (taken []) (refused 23) ⌝ }
+{
+    let all = all_boards(n);
+    if !subset(faulty, all) {
+        return Verdict::Refused(Refusal::BadFaulty);
+    }
+    if is_tolerated(sets, faulty) {
+        return Verdict::Accepted;
+    }
+    Verdict::Refused(Refusal::BadFaulty)
+}
+
+// What playing needs of a head.
+pub struct Head {
+    pub plan: Plan,
+    // The faulty boards, F.
+    pub faulty: u8,
+    // The dealer's value.
+    pub word: u8,
+}
+
+// The head of a sheet that is accepted.
+pub fn head_of(line: &[u8]) -> Head
+    ensures { λ r. ⌜ r ≡ headFrom (now (line .entry)) ⌝ }
+{
+    let count = byte_at(line, 5);
+    let sets = sets_of(line, count);
+    let planned = Plan::new(
+        byte_at(line, 0),
+        &sets[0..count as usize],
+        byte_at(line, 2),
+        byte_at(line, 1),
+        byte_at(line, 3),
+    );
+    let plan = planned.plan;
+    let faulty = byte_at(line, count as usize + 6);
+    let word = byte_at(line, 4);
+    Head {
+        plan: plan,
+        faulty: faulty,
+        word: word,
+    }
+}
+
+// The head, whose line is digits: 22, then 1 to 8, 18, 23.
+pub fn judge_head(line: &[u8]) -> Verdict
+    ensures { λ v. ⌜ verdict v ≡ judgeHead (bytesFrom (now (line .entry)) 0 (length (now (line .entry)) / 2)) ⌝ }
+{
+    let count = byte_at(line, 5);
+    let bytes = line.len() / 2;
+    let last = count as usize + 6;
+    if bytes != last + 1 {
+        return Verdict::Refused(Refusal::BadHead);
+    }
+    let sets = sets_of(line, count);
+    let n = byte_at(line, 0);
+    let span = byte_at(line, 1);
+    let planned = Plan::new(
+        n,
+        &sets[0..count as usize],
+        byte_at(line, 2),
+        span,
+        byte_at(line, 3),
+    );
+    let plan = planned.answer;
+    let word = judge_word(span, byte_at(line, 4));
+    let faulty = judge_faulty(n, &sets[0..count as usize], byte_at(line, last));
+    first_of(plan, first_of(word, faulty))
+}

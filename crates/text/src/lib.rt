@@ -1,0 +1,3 @@
+// Reading a sheet.
+pub mod head;
+pub mod lines;
