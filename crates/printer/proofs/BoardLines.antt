@@ -27,7 +27,7 @@ pub record-at : (records : List Record) (i : ℕ) → boardAt (boardsOf records)
 unfolding boardAt boardsOf nobody
 record-at records i = ap (λ (b : Board). b .rec) (List·getD-map (λ (r : Record). record { rec = r; cells = [] }) records i voidRecord)
 
--- Where there is none, it shows 0 and an empty list.
+-- Its decision and its list, as the code reads them: with any record for want of one that has decision 0 and an empty list.
 pub decision-at : (records : List Record) (i : ℕ) (other : Record) → other .decision ≡ 0
     → getD records i other .decision ≡ boardAt (boardsOf records) i .rec .decision
 unfolding boardAt boardsOf nobody voidRecord

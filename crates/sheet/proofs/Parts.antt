@@ -2,17 +2,16 @@
 -- Assumes nothing.
 use Prim.Native.Nat.{ℕ, zero, suc, _+_, _-_, _*_, _≤_, _<_}
 use mathlib.Core.Path.{_≡_, refl, sym, ap, ap₂, _∙_}
-use mathlib.Core.Logic.{_≢_, _⊎_, inl, inr, ⊎-elim}
+use mathlib.Core.Logic.{_≢_, _⊎_, inl, ⊎-elim}
 use mathlib.Core.Bool.{Bool, true, false, cond}
-use mathlib.Core.List.{List, [], _∷_, _++_}
+use mathlib.Core.List.{List, _++_}
 use native.Mathlib.Nat.{mul-le-mul-right, suc-mul}
 use native.Mathlib.Omega.{arith}
 use lib.Dec.{eqb, ltb}
 use lib.ListN.{length, getD, take, drop, length-append, length-take, length-drop, take-append-drop}
-use lib.Seq.{length-take-le, take-at, drop-at, drop-drop, getD-take, getD-drop, getD-append-add, ext-getD, take-all}
-use lib.ListN.{List·getD-append}
+use lib.Seq.{length-take-le, take-at, drop-at, drop-drop, getD-take, getD-drop, ext-getD}
 use borrow.Author.Tests.{eqb-true, eqb-false, eq-eqb, ne-eqb, ltb-true, ltb-false}
-use Rattle.sets.proofs.Tests.{cases, clash}
+use Rattle.sets.proofs.Tests.{cases}
 
 -- The c bytes from place a on are replaced.
 unfoldable pub replace : ℕ → ℕ → List ℕ → List ℕ → List ℕ
@@ -75,13 +74,8 @@ module _ (a c : ℕ) (new l : List ℕ) (size : length new ≡ c) (fits : a + c 
 
 -- A part that is replaced twice.
 pub replace-twice : (a c : ℕ) (old new l : List ℕ) → length old ≡ c → a + c ≤ length l → replace a c new (replace a c old l) ≡ replace a c new l
-replace-twice a c old new l s f = unfold replace in ap₂ (λ x y. x ++ (new ++ y)) (fold-take a c old l s f) (fold-drop a c old l s f)
-  where
-    fold-take : (a c : ℕ) (old l : List ℕ) → length old ≡ c → a + c ≤ length l → take a (replace a c old l) ≡ take a l
-    fold-take a c old l s f = replace-take a c old l s f
-
-    fold-drop : (a c : ℕ) (old l : List ℕ) → length old ≡ c → a + c ≤ length l → drop (a + c) (replace a c old l) ≡ drop (a + c) l
-    fold-drop a c old l s f = replace-drop a c old l s f
+unfolding replace
+replace-twice a c old new l s f = ap₂ (λ x y. x ++ (new ++ y)) (replace-take a c old l s f) (replace-drop a c old l s f)
 
 -- A part replaced by itself.
 pub replace-own : (a c : ℕ) (l : List ℕ) → replace a c (take c (drop a l)) l ≡ l

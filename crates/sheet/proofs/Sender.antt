@@ -1,13 +1,13 @@
 -- The frame of a sender outside F, by the answers of the calls that give it.
 -- Assumes nothing.
-use Prim.Native.Nat.{ℕ, suc, _+_, _-_, _*_, _≤_}
+use Prim.Native.Nat.{ℕ, _+_, _-_, _*_, _≤_}
 use mathlib.Core.Path.{_≡_, refl, sym, ap, ap₂, _∙_}
 use mathlib.Core.Logic.{_≢_}
 use mathlib.Core.Bool.{true, false, cond}
-use mathlib.Core.List.{List, [], _∷_, _++_}
+use mathlib.Core.List.{List, [], _∷_}
 use native.Mathlib.Numerals.{add-one}
 use native.Mathlib.Omega.{arith}
-use lib.Dec.{eqb, ltb}
+use lib.Dec.{ltb}
 use lib.ListN.{length, getD, take, drop, replicate}
 use borrow.Author.Tests.{eq-eqb, ne-eqb, ltb-false}
 use Rattle.sets.specs.Sets.{member}
@@ -23,7 +23,7 @@ use Rattle.protocol.specs.Calls.{isTaken, judgeOpen, dealing, frameOf, judgeSen
 use Rattle.protocol.specs.Sheet.{Frame}
 use Rattle.protocol.specs.Playing.{part}
 use Rattle.text.specs.declared.head.Head.{Head}
-use Rattle.sheet.specs.declared.acting.Act.the-variants.{Begin, Hear, HearFaulty, Close}
+use Rattle.sheet.specs.declared.acting.Act.the-variants.{Hear, HearFaulty, Close}
 use Rattle.sheet.specs.Stage.{Stage, noRecord, boardOn, actAll, dealtFrame, frameFrom, hearSender, hearSenders, playSteps}
 
 pub dealt-taken : (h : Head) (v : ℕ) → taken (v ∷ []) ≡ dealing (h .plan) (h .word) → v ∷ [] ≡ dealtFrame h

@@ -1,19 +1,17 @@
 -- The boards on the stage are those of the session, after every step.
 -- Assumes nothing.
-use Prim.Native.Nat.{ℕ, zero, suc, _+_, _-_, _*_, _≤_, _<_}
+use Prim.Native.Nat.{ℕ, zero, suc, _*_, _≤_, _<_}
 use mathlib.Core.Path.{_≡_, refl, sym, ap, ap₂, subst, _∙_}
 use mathlib.Core.Logic.{_≢_, _⊎_, inl, inr, ⊎-elim}
-use mathlib.Core.Bool.{Bool, true, false, not, _&&_, cond}
+use mathlib.Core.Bool.{true, false, cond}
 use mathlib.Core.List.{List, [], _∷_}
-use mathlib.Core.Option.{Option, some, none}
 use native.Mathlib.Omega.{arith}
 use lib.Dec.{eqb, ltb}
 use lib.ListN.{length, getD, set, take, drop, replicate, length-set, length-replicate, getD-replicate}
 use lib.Seq.{getD-set-same, getD-set-other}
 use borrow.Author.Tests.{eqb-true, eqb-false, eq-eqb, ne-eqb, ltb-true, ltb-false, lt-ltb, le-ltb, lt-leb}
 use Rattle.sets.specs.Sets.{member}
-use Rattle.sets.proofs.Tests.{cases, clash, and-l, and-r, and-true, not-t, true-not}
-use Rattle.plan.specs.declared.plan.Plan.{Plan}
+use Rattle.sets.proofs.Tests.{cases, clash, and-l}
 use Rattle.plan.specs.Schedule.{steps, stepRun, stepRound}
 use Rattle.plan.specs.Outcome.{Outcome, taken, refused}
 use Rattle.plan.specs.Calls.{judged}
@@ -22,7 +20,7 @@ use Rattle.tree.specs.Places.{cellCount}
 use Rattle.sets.specs.Search.{any}
 use Rattle.protocol.specs.Nodes.{due}
 use Rattle.protocol.specs.Rounds.{Board}
-use Rattle.protocol.specs.Calls.{isTaken, voidRecord, judgeOpen, judgeSending, dealing, receiving, sending, frameOf, closing, beginning}
+use Rattle.protocol.specs.Calls.{isTaken, voidRecord, judgeOpen, judgeSending, dealing, receiving, sending, frameOf, beginning}
 use Rattle.protocol.specs.Session.{Adversary, Setting, boardAt, begun, hears, handIn, session, at}
 use Rattle.protocol.specs.Lists.{keeper, Sound}
 use Rattle.protocol.specs.Sheet.{Frame, headPlan}

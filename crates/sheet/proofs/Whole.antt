@@ -1,21 +1,18 @@
 -- A whole sheet: what the code has in hand is what playing leaves.
 -- Assumes nothing.
-use Prim.Native.Nat.{ℕ, zero, suc, _+_, _-_, _*_, _≤_, _<_}
+use Prim.Native.Nat.{ℕ, zero, suc, _≤_, _<_}
 use mathlib.Core.Path.{_≡_, refl, sym, ap, ap₂, subst, _∙_}
 use mathlib.Core.Logic.{_≢_}
-use mathlib.Core.Bool.{true, false, cond}
+use mathlib.Core.Bool.{true, cond}
 use mathlib.Core.List.{List, [], _∷_, _++_}
 use native.Mathlib.Omega.{arith}
-use lib.Dec.{eqb, ltb}
+use lib.Dec.{eqb}
 use lib.ListN.{length, getD, drop, replicate}
 use borrow.Author.Tests.{eq-eqb, ne-eqb, lt-ltb, le-ltb}
-use Rattle.sets.specs.Sets.{member}
 use Rattle.plan.specs.Schedule.{steps}
 use Rattle.plan.specs.Outcome.{Outcome, taken, refused, verdict}
-use Rattle.tree.specs.Places.{cellCount}
 use Rattle.protocol.specs.declared.records.Record.{Record}
 use Rattle.protocol.specs.Calls.{voidRecord}
-use Rattle.protocol.specs.Session.{boardAt}
 use Rattle.protocol.specs.Lists.{keeper}
 use Rattle.protocol.specs.Sheet.{headPlan, wrongAt, reading}
 use Rattle.protocol.specs.Sheet as S
@@ -27,7 +24,7 @@ use Rattle.reader.specs.Reading.{judgedSays}
 use Rattle.printer.specs.Printed.{boardLines}
 use Rattle.printer.proofs.BoardLines.{lines-played}
 use Rattle.sheet.specs.Stage.{Stage, Roomy, noRecord, playSteps}
-use Rattle.sheet.proofs.Stages.{codeHead, Holds, final-stage, final-cells, final-record}
+use Rattle.sheet.proofs.Stages.{codeHead, final-stage, final-cells, final-record}
 
 in-list : (l : List Record) (i : ℕ) (d e : Record) → i < length l → getD l i d ≡ getD l i e
 in-list [] i d e h = absurd (omega arith)

@@ -1,19 +1,14 @@
+-- `act_all` meets its contract: one board more each turn.
+-- Assumes nothing.
 use Rattle.sheet.proofs.acting.act_all.Statement.{statement}
 use Rattle.sheet.proofs.acting.act_all.Tie as tie
-use Rattle.sheet.proofs.acting.act_all.Reads as reads
-use Rattle.sheet.proofs.acting.act_all.Lts as lts
-use Rattle.sheet.proofs.acting.act_one.Reads as act-one-reads
-use Rattle.sheet.proofs.acting.is_keeper.Reads as is-keeper-reads
-use Rattle.tree.proofs.levels.cell_count.Reads as cell-count-reads
-use Prim.Native.Nat.{ℕ, _+_, _-_, _*_, _≤_, _<_}
+use Prim.Native.Nat.{_+_, _-_, _*_, _≤_}
 use mathlib.Core.Path.{_≡_, refl, sym, ap, ap₂, subst, _∙_}
-use mathlib.Core.Bool.{true, false}
 use mathlib.Core.Logic.{⊎-elim}
 use native.Mathlib.Omega.{arith}
 use lib.ListN.{length}
 use borrow.Author.Needs.{needs}
 use Rattle.tree.specs.Places.{cellCount}
-use Rattle.protocol.specs.Calls.{voidRecord}
 use Rattle.reader.specs.Reading.{framesFrom}
 use Rattle.sheet.specs.Stage.{Stage, actAll}
 use Rattle.tree.proofs.Within.{count-within}
@@ -27,24 +22,19 @@ Inv-loop head act text from frame cells₀ plan n size all₀ i₀ cells all i =
 abbrev μ-loop : tie.MeasureT-loop
 μ-loop head act text from frame cells₀ plan n size all₀ i₀ cells all i = n - i
 
--- src/acting.rt:109:9
 cell-count-requires : tie.Need-cell-count-requires Inv-loop μ-loop
 cell-count-requires c κs = search needs
 
--- src/acting.rt:112:5
 loop-holds : tie.Need-loop-holds Inv-loop μ-loop
 unfolding actAll
 loop-holds c = (search needs, refl, refl)
 
--- src/acting.rt:113:12
 is-keeper-requires : tie.Need-is-keeper-requires Inv-loop μ-loop
 is-keeper-requires c κs = search needs
 
--- src/acting.rt:114:21
 cast-a : tie.Need-cast-a Inv-loop μ-loop
 cast-a c = search needs
 
--- src/acting.rt:114:21
 mul-a : tie.Need-mul-a Inv-loop μ-loop
 mul-a c =
     let s = c .before .before .before .before .before .before .before .before .before in
@@ -55,7 +45,6 @@ mul-a c =
     let k : (a.head .plan .n) * z .result ≤ length (a.cells .now) = subst (λ x. (a.head .plan .n) * x ≤ length (a.cells .now)) (sym y) (s .pre .1) in
     record { fits = omega (arith, parts-within l.i (a.head .plan .n) (z .result) (omega arith), k) }
 
--- src/acting.rt:115:21
 add-e : tie.Need-add-e Inv-loop μ-loop
 add-e c =
     let s = c .before .before .before .before .before .before .before .before .before in
@@ -66,27 +55,21 @@ add-e c =
     let k : (a.head .plan .n) * z .result ≤ length (a.cells .now) = subst (λ x. (a.head .plan .n) * x ≤ length (a.cells .now)) (sym y) (s .pre .1) in
     record { fits = omega (arith, parts-within l.i (a.head .plan .n) (z .result) (omega arith), k) }
 
--- src/acting.rt:116:25
 cast-r : tie.Need-cast-r Inv-loop μ-loop
 cast-r c = search needs
 
--- src/acting.rt:116:21
 mul-r : tie.Need-mul-r Inv-loop μ-loop
 mul-r c = search needs
 
--- src/acting.rt:116:21
 array-copy-out-r : tie.Need-array-copy-out-r Inv-loop μ-loop
 array-copy-out-r c = search needs
 
--- src/acting.rt:117:68
 sub-act-one : tie.Need-sub-act-one Inv-loop μ-loop
 sub-act-one c = search needs
 
--- src/acting.rt:117:68
 part-act-one-start : tie.Need-part-act-one-start Inv-loop μ-loop
 part-act-one-start c = search needs
 
--- src/acting.rt:117:68
 part-act-one-end : tie.Need-part-act-one-end Inv-loop μ-loop
 part-act-one-end c =
     let s = c .before .before .before .before .before .before .before .before .before .before in
@@ -97,31 +80,24 @@ part-act-one-end c =
     let k : (a.head .plan .n) * z .result ≤ length (a.cells .now) = subst (λ x. (a.head .plan .n) * x ≤ length (a.cells .now)) (sym y) (s .pre .1) in
     omega (arith, parts-within l.i (a.head .plan .n) (z .result) (omega arith), k, l .inv .2)
 
--- src/acting.rt:117:17
 act-one-requires : tie.Need-act-one-requires Inv-loop μ-loop
 act-one-requires c κs = search needs
 
--- src/acting.rt:118:17
 cast-all : tie.Need-cast-all Inv-loop μ-loop
 cast-all c = search needs
 
--- src/acting.rt:118:13
 mul-all : tie.Need-mul-all Inv-loop μ-loop
 mul-all c = search needs
 
--- src/acting.rt:118:13
 array-set-from-all : tie.Need-array-set-from-all Inv-loop μ-loop
 array-set-from-all c = search needs
 
--- src/acting.rt:120:9
 add-i : tie.Need-add-i Inv-loop μ-loop
 add-i c = search needs
 
--- src/acting.rt:112:5
 loop-less : tie.Need-loop-less Inv-loop μ-loop
 loop-less c = search needs
 
--- src/acting.rt:112:5
 loop-again : tie.Need-loop-again Inv-loop μ-loop
 loop-again c = let s = c .before .before .before .before .before .before .before .before .before in
     let a = s .args in
@@ -147,11 +123,9 @@ loop-again c = let s = c .before .before .before .before .before .before .before
     ))
     (c .if1 .came)
 
--- src/acting.rt:95:1
 same-length : tie.Need-same-length Inv-loop μ-loop
 same-length c = c .before .loop .inv .2
 
--- src/acting.rt:95:1
 returns : tie.Need-returns Inv-loop μ-loop
 returns c =
     let a = c .before .before .before .before .before .before .before .args in

@@ -1,46 +1,36 @@
+-- `hear_faulty` meets its contract: the frame is heard as it stands in the sheet.
+-- Assumes nothing.
 use Prim.Native.Nat.{_-_}
-use mathlib.Core.Path.{_≡_, refl, sym, ap, _∙_}
-use mathlib.Core.Option.{some, none}
+use mathlib.Core.Path.{sym, ap, _∙_}
 use native.Mathlib.Omega.{arith}
 use lib.ListN.{take}
 use Rattle.protocol.specs.Rounds.{Board}
 use Rattle.protocol.specs.Calls.{receiving}
 use Rattle.protocol.specs.Playing.{findFrame}
-use Rattle.reader.specs.Reading.{framesFrom, foundSays, readLength, readValues}
+use Rattle.reader.specs.Reading.{framesFrom, foundSays}
 use Rattle.sheet.proofs.FromSheet.{read-missing, read-fits, read-heard}
 use borrow.Author.Needs.{needs}
 use Rattle.sheet.proofs.acting.hear_faulty.Statement.{statement}
 use Rattle.sheet.proofs.acting.hear_faulty.Tie as tie
-use Rattle.sheet.proofs.acting.hear_faulty.Reads as reads
-use Rattle.sheet.proofs.acting.hear_faulty.Lts as lts
-use Rattle.board.proofs.receiving.receive.Reads as receive-reads
-use Rattle.reader.proofs.finding.read_frame.Reads as read-frame-reads
 
--- src/acting.rt:55:58
 slice-aggregate-read-frame : tie.Need-slice-aggregate-read-frame
 slice-aggregate-read-frame c = search needs
 
--- src/acting.rt:55:11
 read-frame-requires : tie.Need-read-frame-requires
 read-frame-requires c κs = search needs
 
--- src/acting.rt:56:27
 enum-told : tie.Need-enum-told
 enum-told c = search needs
 
--- src/acting.rt:57:23
 enum-known-k : tie.Need-enum-known-k
 enum-known-k c = search needs
 
--- src/acting.rt:58:46
 sub-receive : tie.Need-sub-receive
 sub-receive c = search needs
 
--- src/acting.rt:58:46
 part-receive-start : tie.Need-part-receive-start
 part-receive-start c = search needs
 
--- src/acting.rt:58:46
 part-receive-end : tie.Need-part-receive-end
 unfolding foundSays
 part-receive-end c =
@@ -51,11 +41,9 @@ part-receive-end c =
     let e = ap foundSays (sym (c .before .before .before .k .given .1)) ∙ d .ensures .0 in
     omega (arith, read-fits v 121 k e)
 
--- src/acting.rt:58:17
 receive-requires : tie.Need-receive-requires
 receive-requires c κs = search needs
 
--- src/acting.rt:49:1
 returns : tie.Need-returns
 unfolding foundSays
 returns c =
@@ -66,11 +54,9 @@ returns c =
     let e = read-missing v 121 a.q b (ap foundSays (sym (c .enum-told .given .1)) ∙ d .ensures .0) in
     (ap (λ (x : Board). x .rec) e, ap (λ (x : Board). x .cells) e)
 
--- src/acting.rt:49:1
 same-length : tie.Need-same-length
 same-length c = search needs
 
--- src/acting.rt:49:1
 returns-2 : tie.Need-returns-2
 unfolding foundSays
 returns-2 c =

@@ -1,19 +1,16 @@
-use mathlib.Core.Path.{_≡_, refl, sym, ap, _∙_}
-use mathlib.Core.Bool.{true, false, not}
+-- `is_keeper` meets its contract.
+-- Assumes nothing.
+use mathlib.Core.Path.{_≡_, refl, sym, _∙_}
+use mathlib.Core.Bool.{true, false}
 use Rattle.sets.specs.Sets.{member}
 use Rattle.sheet.specs.Stage.{keeps}
 use borrow.Author.Needs.{needs}
 use Rattle.sheet.proofs.acting.is_keeper.Statement.{statement}
 use Rattle.sheet.proofs.acting.is_keeper.Tie as tie
-use Rattle.sheet.proofs.acting.is_keeper.Reads as reads
-use Rattle.sheet.proofs.acting.is_keeper.Lts as lts
-use Rattle.sets.proofs.boards.has.Reads as has-reads
 
--- src/acting.rt:42:8
 has-requires : tie.Need-has-requires
 has-requires c κs = search needs
 
--- src/acting.rt:43:9
 returns : tie.Need-returns
 unfolding keeps
 returns c =
@@ -21,7 +18,6 @@ returns c =
     let e : member a.i (a.head .faulty) ≡ true = sym (c .before .has .ensures) ∙ c .if1 .taken in
     rw e
 
--- src/acting.rt:37:1
 returns-2 : tie.Need-returns-2
 unfolding keeps
 returns-2 c =

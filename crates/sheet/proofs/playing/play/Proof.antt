@@ -1,23 +1,16 @@
-use Prim.Native.Nat.{_+_, _-_}
-use mathlib.Core.Path.{_≡_, refl, sym, ap, ap₂, subst, _∙_}
-use mathlib.Core.List.{[], _∷_}
-use native.Mathlib.Omega.{arith}
-use Rattle.plan.specs.Outcome.{Outcome, taken, refused, refusal, verdict}
+-- `play` meets its contract: 20, 17, 11, then the sheet.
+-- Assumes nothing.
+use mathlib.Core.Path.{sym, ap, _∙_}
+use Rattle.plan.specs.Outcome.{refusal, verdict}
 use Rattle.plan.proofs.Outcomes.{refusal-number}
 use Rattle.protocol.specs.Answers.{playedSays}
-use Rattle.protocol.specs.Sheet.{wrongAt, reading}
+use Rattle.protocol.specs.Sheet.{wrongAt}
 use Rattle.protocol.specs.Playing.{Play, refusedPlay}
-use Rattle.reader.specs.Reading.{judgedSays}
 use Rattle.sheet.proofs.Whole.{too-long, short-output, short-cells, judged-refused, judged-accepted, sheet-refused, sheet-accepted}
 use borrow.Author.Needs.{needs}
 use Rattle.sheet.proofs.playing.play.Statement.{statement}
 use Rattle.sheet.proofs.playing.play.Tie as tie
-use Rattle.sheet.proofs.playing.play.Reads as reads
-use Rattle.sheet.proofs.playing.play.Lts as lts
-use Rattle.reader.proofs.judging.judge_sheet.Reads as judge-sheet-reads
-use Rattle.sheet.proofs.playing.play_sheet.Reads as play-sheet-reads
 
--- src/playing.rt:42:9
 returns : tie.Need-returns
 unfolding playedSays refusal wrongAt refusedPlay
 returns c =
@@ -25,7 +18,6 @@ returns c =
     let e = too-long (a.text .now) (a.cells .now) (a.out .now) (c .if1 .taken) in
     (ap (λ (p : Play). p .answer) e, ap (λ (p : Play). p .cells) e, ap (λ (p : Play). p .out) e)
 
--- src/playing.rt:45:9
 returns-2 : tie.Need-returns-2
 unfolding playedSays refusal wrongAt refusedPlay
 returns-2 c =
@@ -33,7 +25,6 @@ returns-2 c =
     let e = short-output (a.text .now) (a.cells .now) (a.out .now) (c .before .if1 .left) (c .if2 .taken) in
     (ap (λ (p : Play). p .answer) e, ap (λ (p : Play). p .cells) e, ap (λ (p : Play). p .out) e)
 
--- src/playing.rt:48:9
 returns-3 : tie.Need-returns-3
 unfolding playedSays refusal wrongAt refusedPlay
 returns-3 c =
@@ -41,23 +32,18 @@ returns-3 c =
     let e = short-cells (a.text .now) (a.cells .now) (a.out .now) (c .before .before .if1 .left) (c .before .if2 .left) (c .if3 .taken) in
     (ap (λ (p : Play). p .answer) e, ap (λ (p : Play). p .cells) e, ap (λ (p : Play). p .out) e)
 
--- src/playing.rt:50:9
 judge-sheet-requires : tie.Need-judge-sheet-requires
 judge-sheet-requires c κs = search needs
 
--- src/playing.rt:54:26
 enum-known-verdict : tie.Need-enum-known-verdict
 enum-known-verdict c = search needs
 
--- src/playing.rt:54:55
 cast-t14 : tie.Need-cast-t14
 cast-t14 c = search needs
 
--- src/playing.rt:55:63
 enum-told : tie.Need-enum-told
 enum-told c = search needs
 
--- src/playing.rt:55:46
 play-sheet-requires : tie.Need-play-sheet-requires
 unfolding verdict
 play-sheet-requires c κs =
@@ -66,7 +52,6 @@ play-sheet-requires c κs =
     let e = judged-accepted (d .result) (a.text .now) (d .ensures .0) (ap verdict (sym (c .before .before .enum-told .given .1))) in
     (e, c .before .before .before .before .before .if3 .left, c .before .before .before .before .before .before .if2 .left)
 
--- src/playing.rt:38:1
 returns-4 : tie.Need-returns-4
 unfolding playedSays verdict wrongAt refusedPlay
 returns-4 c =
@@ -78,15 +63,12 @@ returns-4 c =
     (wrongAt (d .result .line) (refusal why)) o (refusal-number why) in
     (ap (λ (p : Play). p .answer) e, ap (λ (p : Play). p .cells) e, ap (λ (p : Play). p .out) e)
 
--- src/playing.rt:38:1
 same-length : tie.Need-same-length
 same-length c = search needs
 
--- src/playing.rt:38:1
 same-length-2 : tie.Need-same-length-2
 same-length-2 c = search needs
 
--- src/playing.rt:38:1
 returns-5 : tie.Need-returns-5
 unfolding playedSays verdict
 returns-5 c =

@@ -1,3 +1,5 @@
+-- `play_sheet` meets its contract.
+-- Assumes nothing.
 use Prim.Native.Nat.{_+_, _-_}
 use mathlib.Core.Path.{_≡_, refl, sym, ap, ap₂, subst, _∙_}
 use mathlib.Core.List.{[], _∷_}
@@ -11,50 +13,36 @@ use Rattle.protocol.specs.Playing.{Play}
 use Rattle.text.specs.Text.{headFrom}
 use Rattle.reader.specs.Reading.{framesFrom}
 use Rattle.reader.proofs.Accepted.{sheet-ended, sheet-head, sheet-frames}
-use Rattle.printer.specs.Printed.{boardLines}
 use Rattle.sheet.specs.Stage.{Stage, Roomy, playSteps}
 use Rattle.sheet.proofs.Stages.{codeHead}
-use Rattle.sheet.proofs.Whole.{head-roomy, ended, sheet-played}
+use Rattle.sheet.proofs.Whole.{head-roomy, sheet-played}
 use borrow.Author.Needs.{needs}
 use Rattle.sheet.proofs.playing.play_sheet.Statement.{statement}
 use Rattle.sheet.proofs.playing.play_sheet.Tie as tie
-use Rattle.sheet.proofs.playing.play_sheet.Reads as reads
-use Rattle.sheet.proofs.playing.play_sheet.Lts as lts
-use Rattle.printer.proofs.printing.print_boards.Reads as print-boards-reads
-use Rattle.sheet.proofs.stage.play_rounds.Reads as play-rounds-reads
-use Rattle.text.proofs.head.head_of.Reads as head-of-reads
-use Rattle.text.proofs.lines.line_end.Reads as line-end-reads
 
--- src/playing.rt:24:9
 line-end-requires : tie.Need-line-end-requires
 line-end-requires c κs = search needs
 
--- src/playing.rt:25:24
 sub-head-of : tie.Need-sub-head-of
 sub-head-of c = search needs
 
--- src/playing.rt:25:24
 part-head-of-start : tie.Need-part-head-of-start
 part-head-of-start c = search needs
 
--- src/playing.rt:25:24
 part-head-of-end : tie.Need-part-head-of-end
 part-head-of-end c =
     let s = c .before .before .before .before in
     omega (arith, c .line-end .ensures, sheet-ended (s .args .text .now) (s .pre .0))
 
--- src/playing.rt:25:9
 head-of-requires : tie.Need-head-of-requires
 head-of-requires c κs = search needs
 
--- src/playing.rt:26:43
 add-play-rounds : tie.Need-add-play-rounds
 add-play-rounds c =
     let s = c .before .before .before .before .before .before in
     let l = sheet-ended (s .args .text .now) (s .pre .0) in
     record { fits = omega (arith, c .before .before .line-end .ensures, l) }
 
--- src/playing.rt:26:9
 play-rounds-requires : tie.Need-play-rounds-requires
 unfolding codeHead
 play-rounds-requires c κs =
@@ -64,19 +52,15 @@ play-rounds-requires c κs =
     let eh = c .before .head-of .ensures ∙ ap (λ k. headFrom (take (k - 0) (drop 0 (a.text .now)))) (end .ensures) ∙ sheet-head (a.text .now) (s .pre .0) in
     subst (λ x. Roomy x (a.cells .now)) (sym eh) (head-roomy (a.text .now) (a.cells .now) (a.out .now) (s .pre .0) (s .pre .1) (s .pre .2))
 
--- src/playing.rt:27:5
 print-boards-requires : tie.Need-print-boards-requires
 print-boards-requires c κs = search needs
 
--- src/playing.rt:20:1
 same-length : tie.Need-same-length
 same-length c = search needs
 
--- src/playing.rt:20:1
 same-length-2 : tie.Need-same-length-2
 same-length-2 c = search needs
 
--- src/playing.rt:20:1
 returns : tie.Need-returns
 unfolding codeHead
 returns c =

@@ -1,62 +1,41 @@
-use Prim.Native.Nat.{ℕ, _+_, _-_, _*_, _≤_, _<_}
-use mathlib.Core.Path.{_≡_, refl, sym, ap, ap₂, subst, _∙_}
-use mathlib.Core.Bool.{true, false}
-use mathlib.Core.List.{List, [], _∷_, _++_}
-use mathlib.Core.Logic.{⊎-elim}
+-- `frame_of` meets its contract.
+-- Assumes nothing.
+use Prim.Native.Nat.{ℕ}
+use mathlib.Core.Path.{sym, ap, _∙_}
 use native.Mathlib.Omega.{arith}
-use lib.ListN.{length, take, drop, set, replicate, length-replicate}
-use lib.Seq.{take-suc-set}
-use Rattle.plan.specs.Outcome.{taken, refusal}
+use lib.ListN.{length, take, length-replicate}
 use Rattle.plan.proofs.Outcomes.{refusal-number}
-use Rattle.tree.specs.Places.{cellCount}
-use Rattle.tree.proofs.Within.{count-within}
-use Rattle.protocol.specs.Answers.{dealtSays, sentSays}
+use Rattle.protocol.specs.Answers.{sentSays}
 use Rattle.protocol.specs.Rounds.{Board}
-use Rattle.protocol.specs.Calls.{voidRecord, sending}
-use Rattle.reader.specs.Reading.{framesFrom}
-use Rattle.sheet.specs.Stage.{Stage, noRecord, hearSender, hearSenders, playSteps}
-use Rattle.sheet.proofs.Parts.{parts-within}
-use Rattle.sheet.proofs.Sender.{sending-fits, dealt-taken, dealt-refused, from-dealer, from-sender, from-nobody, heard-faulty, heard-healthy, heard-more}
+use Rattle.sheet.proofs.Sender.{sending-fits, from-dealer, from-sender, from-nobody}
 use borrow.Author.Needs.{needs}
 use Rattle.sheet.proofs.stage.frame_of.Statement.{statement}
 use Rattle.sheet.proofs.stage.frame_of.Tie as tie
-use Rattle.sheet.proofs.stage.frame_of.Reads as reads
-use Rattle.sheet.proofs.stage.frame_of.Lts as lts
-use Rattle.board.proofs.sending.send.Reads as send-reads
-use Rattle.sheet.proofs.stage.dealer_frame.Reads as dealer-frame-reads
 
--- src/stage.rt:47:9
 dealer-frame-requires : tie.Need-dealer-frame-requires
 dealer-frame-requires c κs = let e = ap length (c .before .before .before .before .pre) ∙ length-replicate {A = ℕ} 121 0 in omega (arith, e)
 
--- src/stage.rt:47:9
 same-length : tie.Need-same-length
 same-length c = search needs
 
--- src/stage.rt:47:9
 returns : tie.Need-returns
 returns c =
     let a = c .before .before .before .before .before .before .before .args in
     let d = c .before .before .dealer-frame in
     (omega (arith, d .ensures .0), d .ensures .1 ∙ from-dealer a.head a.q (record { rec = a.r; cells = a.cells .now }) (c .before .before .before .before .if1 .taken))
 
--- src/stage.rt:49:11
 send-requires : tie.Need-send-requires
 send-requires c κs = search needs
 
--- src/stage.rt:50:22
 enum-known-k : tie.Need-enum-known-k
 enum-known-k c = search needs
 
--- src/stage.rt:51:29
 enum-told : tie.Need-enum-told
 enum-told c = search needs
 
--- src/stage.rt:41:1
 same-length-2 : tie.Need-same-length-2
 same-length-2 c = search needs
 
--- src/stage.rt:41:1
 returns-2 : tie.Need-returns-2
 unfolding sentSays
 returns-2 c =
@@ -69,11 +48,9 @@ returns-2 c =
     let size = ap length (s .pre) ∙ length-replicate {A = ℕ} 121 0 in
     (omega (arith, size, sending-fits b (a.frame .now) k (sym e)), ap (take k) (d .ensures .1) ∙ from-sender a.head a.q b k (a.frame .now) (c .before .before .before .before .before .before .before .if1 .left) (s .pre) e)
 
--- src/stage.rt:41:1
 same-length-3 : tie.Need-same-length-3
 same-length-3 c = search needs
 
--- src/stage.rt:41:1
 returns-3 : tie.Need-returns-3
 unfolding sentSays
 returns-3 c =

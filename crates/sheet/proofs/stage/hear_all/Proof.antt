@@ -1,28 +1,15 @@
-use Prim.Native.Nat.{ℕ, _+_, _-_, _*_, _≤_, _<_}
-use mathlib.Core.Path.{_≡_, refl, sym, ap, ap₂, subst, _∙_}
-use mathlib.Core.Bool.{true, false}
-use mathlib.Core.List.{List, [], _∷_, _++_}
-use mathlib.Core.Logic.{⊎-elim}
+-- `hear_all` meets its contract: one sender more each turn.
+-- Assumes nothing.
+use Prim.Native.Nat.{_-_, _≤_}
+use mathlib.Core.Path.{_≡_, refl, ap, ap₂, _∙_}
 use native.Mathlib.Omega.{arith}
-use lib.ListN.{length, take, drop, set, replicate, length-replicate}
-use lib.Seq.{take-suc-set}
-use Rattle.plan.specs.Outcome.{taken, refusal}
-use Rattle.plan.proofs.Outcomes.{refusal-number}
-use Rattle.tree.specs.Places.{cellCount}
-use Rattle.tree.proofs.Within.{count-within}
-use Rattle.protocol.specs.Answers.{dealtSays, sentSays}
-use Rattle.protocol.specs.Rounds.{Board}
-use Rattle.protocol.specs.Calls.{voidRecord, sending}
+use lib.ListN.{length}
 use Rattle.reader.specs.Reading.{framesFrom}
-use Rattle.sheet.specs.Stage.{Stage, noRecord, hearSender, hearSenders, playSteps}
-use Rattle.sheet.proofs.Parts.{parts-within}
-use Rattle.sheet.proofs.Sender.{sending-fits, dealt-taken, dealt-refused, from-dealer, from-sender, from-nobody, heard-faulty, heard-healthy, heard-more}
+use Rattle.sheet.specs.Stage.{Stage, hearSenders}
+use Rattle.sheet.proofs.Sender.{heard-more}
 use borrow.Author.Needs.{needs}
 use Rattle.sheet.proofs.stage.hear_all.Statement.{statement}
 use Rattle.sheet.proofs.stage.hear_all.Tie as tie
-use Rattle.sheet.proofs.stage.hear_all.Reads as reads
-use Rattle.sheet.proofs.stage.hear_all.Lts as lts
-use Rattle.sheet.proofs.stage.hear_sender.Reads as hear-sender-reads
 
 abbrev Inv-loop : tie.InvT-loop
 Inv-loop head text from cells₀ n all₀ q₀ cells all q =
@@ -31,27 +18,22 @@ Inv-loop head text from cells₀ n all₀ q₀ cells all q =
 abbrev μ-loop : tie.MeasureT-loop
 μ-loop head text from cells₀ n all₀ q₀ cells all q = n - q
 
--- src/stage.rt:102:5
 loop-holds : tie.Need-loop-holds Inv-loop μ-loop
 unfolding hearSenders
 loop-holds c = (search needs, refl, refl)
 
--- src/stage.rt:103:13
 hear-sender-requires : tie.Need-hear-sender-requires Inv-loop μ-loop
 hear-sender-requires c κs =
     let s = c .before .before .before .before .before in
     let l = c .before .before .loop in
     ((s .pre .0, omega (arith, s .pre .1, l .inv .2)), omega arith)
 
--- src/stage.rt:105:9
 add-q : tie.Need-add-q Inv-loop μ-loop
 add-q c = search needs
 
--- src/stage.rt:102:5
 loop-less : tie.Need-loop-less Inv-loop μ-loop
 loop-less c = search needs
 
--- src/stage.rt:102:5
 loop-again : tie.Need-loop-again Inv-loop μ-loop
 loop-again c =
     let a = c .before .before .before .before .before .before .before .before .args in
@@ -64,11 +46,9 @@ loop-again c =
       d .kept .1 .1 .1 .1 .1 .0 ∙ l .inv .2,
     )
 
--- src/stage.rt:89:1
 same-length : tie.Need-same-length Inv-loop μ-loop
 same-length c = c .before .loop .inv .2
 
--- src/stage.rt:89:1
 returns : tie.Need-returns Inv-loop μ-loop
 returns c =
     let a = c .before .before .before .before .args in

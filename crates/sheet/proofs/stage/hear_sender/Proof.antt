@@ -1,57 +1,37 @@
-use Prim.Native.Nat.{ℕ, _+_, _-_, _*_, _≤_, _<_}
-use mathlib.Core.Path.{_≡_, refl, sym, ap, ap₂, subst, _∙_}
-use mathlib.Core.Bool.{true, false}
-use mathlib.Core.List.{List, [], _∷_, _++_}
-use mathlib.Core.Logic.{⊎-elim}
+-- `hear_sender` meets its contract.
+-- Assumes nothing.
+use Prim.Native.Nat.{_-_, _*_, _≤_}
+use mathlib.Core.Path.{_≡_, refl, sym, ap, subst, _∙_}
 use native.Mathlib.Omega.{arith}
-use lib.ListN.{length, take, drop, set, replicate, length-replicate}
-use lib.Seq.{take-suc-set}
-use Rattle.plan.specs.Outcome.{taken, refusal}
-use Rattle.plan.proofs.Outcomes.{refusal-number}
+use lib.ListN.{length, take}
 use Rattle.tree.specs.Places.{cellCount}
 use Rattle.tree.proofs.Within.{count-within}
-use Rattle.protocol.specs.Answers.{dealtSays, sentSays}
-use Rattle.protocol.specs.Rounds.{Board}
-use Rattle.protocol.specs.Calls.{voidRecord, sending}
 use Rattle.reader.specs.Reading.{framesFrom}
-use Rattle.sheet.specs.Stage.{Stage, noRecord, hearSender, hearSenders, playSteps}
+use Rattle.sheet.specs.Stage.{Stage}
 use Rattle.sheet.proofs.Parts.{parts-within}
-use Rattle.sheet.proofs.Sender.{sending-fits, dealt-taken, dealt-refused, from-dealer, from-sender, from-nobody, heard-faulty, heard-healthy, heard-more}
+use Rattle.sheet.proofs.Sender.{heard-faulty, heard-healthy}
 use borrow.Author.Needs.{needs}
 use Rattle.sheet.proofs.stage.hear_sender.Statement.{statement}
 use Rattle.sheet.proofs.stage.hear_sender.Tie as tie
-use Rattle.sheet.proofs.stage.hear_sender.Reads as reads
-use Rattle.sheet.proofs.stage.hear_sender.Lts as lts
-use Rattle.sets.proofs.boards.has.Reads as has-reads
-use Rattle.sheet.proofs.acting.act_all.Reads as act-all-reads
-use Rattle.sheet.proofs.stage.frame_of.Reads as frame-of-reads
-use Rattle.tree.proofs.levels.cell_count.Reads as cell-count-reads
 
--- src/stage.rt:68:8
 has-requires : tie.Need-has-requires
 has-requires c κs = search needs
 
--- src/stage.rt:74:13
 sub-act-all : tie.Need-sub-act-all
 sub-act-all c = search needs
 
--- src/stage.rt:74:13
 part-act-all-start : tie.Need-part-act-all-start
 part-act-all-start c = search needs
 
--- src/stage.rt:74:13
 part-act-all-end : tie.Need-part-act-all-end
 part-act-all-end c = search needs
 
--- src/stage.rt:69:9
 act-all-requires : tie.Need-act-all-requires
 act-all-requires c κs = search needs
 
--- src/stage.rt:69:9
 same-length : tie.Need-same-length
 same-length c = search needs
 
--- src/stage.rt:69:9
 returns : tie.Need-returns
 returns c =
     let a = c .before .before .before .before .before .before .before .before .before .args in
@@ -59,11 +39,9 @@ returns c =
     let e = heard-faulty a.head (framesFrom (a.text .now) a.from) a.q (record { recs = a.t5; cells = a.cells .now }) (sym (c .before .before .before .before .before .before .has .ensures) ∙ c .before .before .before .before .before .if1 .taken) in
     (d .ensures .0 ∙ ap (λ x. x .recs) e, d .ensures .1 ∙ ap (λ x. x .cells) e)
 
--- src/stage.rt:79:9
 cell-count-requires : tie.Need-cell-count-requires
 cell-count-requires c κs = search needs
 
--- src/stage.rt:80:13
 mul-a : tie.Need-mul-a
 mul-a c =
     let s = c .before .before .before .before .before in
@@ -73,7 +51,6 @@ mul-a c =
     let k : (a.head .plan .n) * z .result ≤ length (a.cells .now) = subst (λ x. (a.head .plan .n) * x ≤ length (a.cells .now)) (sym y) (s .pre .0 .1) in
     record { fits = omega (arith, parts-within a.q (a.head .plan .n) (z .result) (s .pre .1), k) }
 
--- src/stage.rt:81:13
 add-e : tie.Need-add-e
 add-e c =
     let s = c .before .before .before .before .before in
@@ -83,23 +60,18 @@ add-e c =
     let k : (a.head .plan .n) * z .result ≤ length (a.cells .now) = subst (λ x. (a.head .plan .n) * x ≤ length (a.cells .now)) (sym y) (s .pre .0 .1) in
     record { fits = omega (arith, parts-within a.q (a.head .plan .n) (z .result) (s .pre .1), k) }
 
--- src/stage.rt:82:13
 mul-r : tie.Need-mul-r
 mul-r c = search needs
 
--- src/stage.rt:82:13
 array-copy-out-r : tie.Need-array-copy-out-r
 array-copy-out-r c = search needs
 
--- src/stage.rt:84:34
 sub-frame-of : tie.Need-sub-frame-of
 sub-frame-of c = search needs
 
--- src/stage.rt:84:34
 part-frame-of-start : tie.Need-part-frame-of-start
 part-frame-of-start c = search needs
 
--- src/stage.rt:84:34
 part-frame-of-end : tie.Need-part-frame-of-end
 part-frame-of-end c =
     let s = c .before .before .before .before .before .before .before in
@@ -109,35 +81,27 @@ part-frame-of-end c =
     let k : (a.head .plan .n) * z .result ≤ length (a.cells .now) = subst (λ x. (a.head .plan .n) * x ≤ length (a.cells .now)) (sym y) (s .pre .0 .1) in
     omega (arith, parts-within a.q (a.head .plan .n) (z .result) (s .pre .1), k)
 
--- src/stage.rt:84:48
 slice-aggregate-frame-of : tie.Need-slice-aggregate-frame-of
 slice-aggregate-frame-of c = search needs
 
--- src/stage.rt:84:9
 frame-of-requires : tie.Need-frame-of-requires
 frame-of-requires c κs = search needs
 
--- src/stage.rt:85:45
 sub-act-all-2 : tie.Need-sub-act-all-2
 sub-act-all-2 c = search needs
 
--- src/stage.rt:85:45
 part-act-all-start-2 : tie.Need-part-act-all-start-2
 part-act-all-start-2 c = search needs
 
--- src/stage.rt:85:45
 part-act-all-end-2 : tie.Need-part-act-all-end-2
 part-act-all-end-2 c = search needs
 
--- src/stage.rt:85:5
 act-all-requires-2 : tie.Need-act-all-requires-2
 act-all-requires-2 c κs = search needs
 
--- src/stage.rt:56:1
 same-length-2 : tie.Need-same-length-2
 same-length-2 c = search needs
 
--- src/stage.rt:56:1
 returns-2 : tie.Need-returns-2
 returns-2 c =
     let s = c .before .before .before .before .before .before .before .before .before .before .before .before .before .before .before .before .before in

@@ -1,33 +1,18 @@
-use Prim.Native.Nat.{ℕ, _+_, _-_, _*_, _≤_, _<_}
-use mathlib.Core.Path.{_≡_, refl, sym, ap, ap₂, subst, _∙_}
-use mathlib.Core.Bool.{true, false}
-use mathlib.Core.List.{List, [], _∷_, _++_}
-use mathlib.Core.Logic.{⊎-elim}
+-- `play_rounds` meets its contract: one step more each turn.
+-- Assumes nothing.
+use Prim.Native.Nat.{_-_, _≤_}
+use mathlib.Core.Path.{_≡_, refl, ap, ap₂, _∙_}
+use mathlib.Core.List.{[]}
 use native.Mathlib.Omega.{arith}
-use lib.ListN.{length, take, drop, set, replicate, length-replicate}
-use lib.Seq.{take-suc-set}
-use Rattle.plan.specs.Outcome.{taken, refusal}
-use Rattle.plan.proofs.Outcomes.{refusal-number}
-use Rattle.tree.specs.Places.{cellCount}
-use Rattle.tree.proofs.Within.{count-within}
-use Rattle.protocol.specs.Answers.{dealtSays, sentSays}
-use Rattle.protocol.specs.Rounds.{Board}
-use Rattle.protocol.specs.Calls.{voidRecord, sending}
+use lib.ListN.{length, replicate}
+use Rattle.protocol.specs.Calls.{voidRecord}
 use Rattle.reader.specs.Reading.{framesFrom}
-use Rattle.sheet.specs.Stage.{Stage, noRecord, hearSender, hearSenders, playSteps}
+use Rattle.sheet.specs.Stage.{Stage, hearSenders, playSteps, actAll}
 use Rattle.sheet.specs.declared.acting.Act.the-variants.{Begin, Close}
-use Rattle.sheet.specs.Stage.{actAll}
-use Rattle.sheet.proofs.Parts.{parts-within}
-use Rattle.sheet.proofs.Sender.{sending-fits, dealt-taken, dealt-refused, from-dealer, from-sender, from-nobody, heard-faulty, heard-healthy, heard-more, played-more}
+use Rattle.sheet.proofs.Sender.{played-more}
 use borrow.Author.Needs.{needs}
 use Rattle.sheet.proofs.stage.play_rounds.Statement.{statement}
 use Rattle.sheet.proofs.stage.play_rounds.Tie as tie
-use Rattle.sheet.proofs.stage.play_rounds.Reads as reads
-use Rattle.sheet.proofs.stage.play_rounds.Lts as lts
-use Rattle.plan.proofs.plan.Plan.all_rounds.Reads as all-rounds-reads
-use Rattle.sheet.proofs.acting.act_all.Reads as act-all-reads
-use Rattle.sheet.proofs.stage.hear_all.Reads as hear-all-reads
-use Rattle.sheet.proofs.stage.void_records.Reads as void-records-reads
 
 abbrev Inv-loop : tie.InvT-loop
 Inv-loop head text from cells₀ steps all₀ j₀ cells all j =
@@ -36,69 +21,54 @@ Inv-loop head text from cells₀ steps all₀ j₀ cells all j =
 abbrev μ-loop : tie.MeasureT-loop
 μ-loop head text from cells₀ steps all₀ j₀ cells all j = steps - j
 
--- src/stage.rt:136:9
 all-rounds-requires : tie.Need-all-rounds-requires Inv-loop μ-loop
 all-rounds-requires c κs = search needs
 
--- src/stage.rt:142:9
 sub-act-all : tie.Need-sub-act-all Inv-loop μ-loop
 sub-act-all c = search needs
 
--- src/stage.rt:142:9
 part-act-all-start : tie.Need-part-act-all-start Inv-loop μ-loop
 part-act-all-start c = search needs
 
--- src/stage.rt:142:9
 part-act-all-end : tie.Need-part-act-all-end Inv-loop μ-loop
 part-act-all-end c = search needs
 
--- src/stage.rt:143:9
 void-records-requires : tie.Need-void-records-requires Inv-loop μ-loop
 void-records-requires c κs = search needs
 
--- src/stage.rt:137:9
 act-all-requires : tie.Need-act-all-requires Inv-loop μ-loop
 act-all-requires c κs = c .before .before .before .before .before .before .before .pre
 
--- src/stage.rt:147:5
 loop-holds : tie.Need-loop-holds Inv-loop μ-loop
 loop-holds c = (search needs, λ t e. e, refl)
 
--- src/stage.rt:148:13
 hear-all-requires : tie.Need-hear-all-requires Inv-loop μ-loop
 hear-all-requires c κs =
     let s = c .before .before .before .before .before .before .before .before .before .before .before .before .before in
     let k = c .before .before .before .before .before .act-all .kept .1 .1 .1 .1 .1 .1 .0 in
     (s .pre .0, omega (arith, s .pre .1, c .before .before .loop .inv .2, k))
 
--- src/stage.rt:149:60
 sub-act-all-2 : tie.Need-sub-act-all-2 Inv-loop μ-loop
 sub-act-all-2 c = search needs
 
--- src/stage.rt:149:60
 part-act-all-start-2 : tie.Need-part-act-all-start-2 Inv-loop μ-loop
 part-act-all-start-2 c = search needs
 
--- src/stage.rt:149:60
 part-act-all-end-2 : tie.Need-part-act-all-end-2 Inv-loop μ-loop
 part-act-all-end-2 c = search needs
 
--- src/stage.rt:149:13
 act-all-requires-2 : tie.Need-act-all-requires-2 Inv-loop μ-loop
 act-all-requires-2 c κs =
     let s = c .before .before .before .before .before .before .before .before .before .before .before .before .before .before .before .before .before .before in
     let k = c .before .before .before .before .before .before .before .before .before .before .act-all .kept .1 .1 .1 .1 .1 .1 .0 in
     (s .pre .0, omega (arith, s .pre .1, c .before .before .before .before .hear-all .kept .1 .1 .1 .1 .0, c .before .before .before .before .before .before .before .loop .inv .2, k))
 
--- src/stage.rt:151:9
 add-j : tie.Need-add-j Inv-loop μ-loop
 add-j c = search needs
 
--- src/stage.rt:147:5
 loop-less : tie.Need-loop-less Inv-loop μ-loop
 loop-less c = search needs
 
--- src/stage.rt:147:5
 loop-again : tie.Need-loop-again Inv-loop μ-loop
 loop-again c =
     let a = c .before .before .before .before .before .before .before .before .before .before .before .before .before .before .before .before .before .before .before .before .before .args in
@@ -115,11 +85,9 @@ loop-again c =
       d .kept .1 .1 .1 .1 .1 .1 .0 ∙ g .kept .1 .1 .1 .1 .0 ∙ l .inv .2,
     )
 
--- src/stage.rt:131:1
 same-length : tie.Need-same-length Inv-loop μ-loop
 same-length c = c .before .loop .inv .2 ∙ c .before .before .before .before .act-all .kept .1 .1 .1 .1 .1 .1 .0
 
--- src/stage.rt:131:1
 returns : tie.Need-returns Inv-loop μ-loop
 unfolding playSteps
 returns c =
