@@ -6,3 +6,4 @@ pub mod HasRound
 pub mod Height
 pub mod Steps
 pub mod Injective
+pub mod Together

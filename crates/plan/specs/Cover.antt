@@ -1,5 +1,5 @@
 -- Numbers 4 and 5: a set that names no board of the plan's, and three sets that cover all boards.
-use Prim.Native.Nat.{ℕ, _-_}
+use Prim.Native.Nat.{ℕ, zero, suc, _-_}
 use mathlib.Core.Bool.{Bool, not}
 use mathlib.Core.List.{List, [], _∷_}
 use lib.Dec.{ltb}
@@ -27,6 +27,11 @@ secondPlace n sets i = first (λ j. ltb (thirdPlace n sets i j) (length sets)) (
 -- The first i for which there are such a j and k.
 unfoldable pub firstPlace : ℕ → List ℕ → ℕ
 firstPlace n sets = first (λ i. ltb (secondPlace n sets i) (length sets)) (length sets) 0
+
+-- The boards that stand in one of the first k sets.
+unfoldable pub unionOf : List ℕ → ℕ → ℕ
+unionOf sets zero = 0
+unionOf sets (suc k) = union (unionOf sets k) (getD sets k 0)
 
 -- Do three listed sets, repeats allowed, cover all boards?
 unfoldable pub covered : ℕ → List ℕ → Bool

@@ -10,7 +10,7 @@ ghost use Prim.Native.Nat.{_≤_, _<_};
 ghost use lib.ListN.{length, getD};
 ghost use Rattle.sets.specs.Search.{any};
 ghost use Rattle.sets.specs.Sets.{within};
-ghost use Rattle.plan.specs.Cover.{thirdPlace, secondPlace, firstPlace};
+ghost use Rattle.plan.specs.Cover.{unionOf, thirdPlace, secondPlace, firstPlace};
 ghost use Rattle.plan.specs.Outcome.{verdict};
 ghost use Rattle.plan.specs.Calls.{covering, admitting};
 
@@ -26,6 +26,19 @@ fn names_other(sets: &[u8], all: u8) -> bool
         i += 1;
     }
     false
+}
+
+// The boards that stand in some set.
+fn union_of(sets: &[u8]) -> u8
+    ensures { λ r. ⌜ r ≡ unionOf (now (sets .entry)) (length (now (sets .entry))) ⌝ }
+{
+    let mut boards: u8 = 0;
+    let mut i = 0;
+    while i < sets.len() {
+        boards = boards | sets[i];
+        i += 1;
+    }
+    boards
 }
 
 // The first k from j on with which the sets at i and j cover all boards; the list's length if there is none.
@@ -75,8 +88,8 @@ fn first_place(n: u8, sets: &[u8]) -> usize
     i
 }
 
-// Number 5.
-fn judge_cover(n: u8, sets: &[u8]) -> Verdict
+// Number 5, by trying every triple.
+fn judge_triples(n: u8, sets: &[u8]) -> Verdict
     requires { ⌜ (n ≤ 8) × (length (now sets) ≤ 32) ⌝ }
     ensures { λ r. ⌜ verdict r ≡ covering n (now (sets .entry)) ⌝ }
 {
@@ -87,6 +100,18 @@ fn judge_cover(n: u8, sets: &[u8]) -> Verdict
         return Verdict::Refused(Refusal::Covered(i as u8, j as u8, k as u8));
     }
     Verdict::Accepted
+}
+
+// Number 5. Where a board stands in no set no three sets cover, and no triple is tried.
+fn judge_cover(n: u8, sets: &[u8]) -> Verdict
+    requires { ⌜ (n ≤ 8) × (length (now sets) ≤ 32) ⌝ }
+    ensures { λ r. ⌜ verdict r ≡ covering n (now (sets .entry)) ⌝ }
+{
+    let boards = union_of(sets);
+    if !subset(all_boards(n), boards) {
+        return Verdict::Accepted;
+    }
+    judge_triples(n, sets)
 }
 
 // Admitting a list of sets: 1 to 5, in order.
