@@ -12,6 +12,7 @@ ghost use mathlib.Core.Path.{_≡_};
 ghost use mathlib.Core.Bool.{true, not, _&&_};
 ghost use mathlib.Core.List.{map, _++_};
 ghost use Prim.Native.Nat.{_≤_, _<_};
+ghost use lib.Dec.{ltb};
 ghost use lib.ListN.{length, drop};
 ghost use Rattle.sets.specs.Sets.{member};
 ghost use Rattle.sets.specs.Structure.{tolerated};
@@ -70,6 +71,41 @@ pub fn frame_length(r: Record, q: u8) -> usize
     count_later(r, q)
 }
 
+// Is there a value in the frame of board q, from round 2 on?
+fn has_later(r: Record, q: u8) -> bool
+    requires { ⌜ goodRecord r ≡ true ⌝ }
+    ensures { λ x. ⌜ x ≡ ltb 0 (length (later r q)) ⌝ }
+{
+    let plan = r.plan;
+    let n = r.plan.n;
+    let dealer = r.plan.dealer;
+    let level = r.round.0 - 1;
+    let size = level_size(n, level);
+    let mut index: usize = 0;
+    while index < size {
+        let node = node_at(n, dealer, level, index);
+        let boards = node.mask;
+        if carries(plan, boards, q) {
+            return true;
+        }
+        index += 1;
+    }
+    false
+}
+
+// Is there a value in the frame of board q?
+fn has_values(r: Record, q: u8) -> bool
+    requires { ⌜ goodRecord r ≡ true ⌝ }
+    ensures { λ x. ⌜ x ≡ ltb 0 (length (sent (r .plan) q (r .board) (r .round))) ⌝ }
+{
+    let k = r.round.0;
+    let dealer = r.plan.dealer;
+    if k == 1 {
+        return q == dealer;
+    }
+    has_later(r, q)
+}
+
 // Is a frame due from board q to this board?
 pub fn is_due(r: Record, q: u8) -> bool
     requires { ⌜ goodRecord r ≡ true ⌝ }
@@ -83,7 +119,7 @@ pub fn is_due(r: Record, q: u8) -> bool
     if q == board {
         return false;
     }
-    0 < frame_length(r, q)
+    has_values(r, q)
 }
 
 // Value number i of a frame; the default where it has none.

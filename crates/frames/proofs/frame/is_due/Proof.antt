@@ -1,7 +1,7 @@
 -- `is_due` meets its contract: the tests are the definition's, and a good record's board is below n and not the dealer.
 -- Assumes nothing.
 use Prim.Native.Nat.{ℕ, _≤_, _<_}
-use mathlib.Core.Path.{_≡_, ap, _∙_}
+use mathlib.Core.Path.{_≡_, _∙_}
 use mathlib.Core.Logic.{_≢_}
 use mathlib.Core.Bool.{true, false}
 use lib.Dec.{ltb}
@@ -39,13 +39,13 @@ returns c = let a = c .before .args in no-board a.r a.q (c .before .pre) (c .if1
 returns-2 : tie.Need-returns-2
 returns-2 c = let a = c .before .before .args in itself a.r a.q (c .before .before .pre) (omega arith) (c .if2 .taken)
 
-frame-length-requires : tie.Need-frame-length-requires
-frame-length-requires c κs = search needs
+has-values-requires : tie.Need-has-values-requires
+has-values-requires c κs = search needs
 
 returns-3 : tie.Need-returns-3
 returns-3 c =
     let a = c .before .before .before .args in
-    ap (ltb 0) (c .frame-length .ensures) ∙ other a.r a.q (c .before .before .before .pre) (omega arith) (c .before .if2 .left)
+    c .has-values .ensures ∙ other a.r a.q (c .before .before .before .pre) (omega arith) (c .before .if2 .left)
 
 pub is-due-spec : {M : Type 1} → statement M
-is-due-spec = tie.close (tie.spec returns returns-2 frame-length-requires returns-3)
+is-due-spec = tie.close (tie.spec returns returns-2 has-values-requires returns-3)
