@@ -20,14 +20,6 @@ fn close_round(r: Record, cells: &mut [u8]) -> Record
     own
 }
 
-// The decision, or FF.
-fn decision_of(r: Record) -> u8 {
-    match decide(r) {
-        Decision::Value(v) => v,
-        Decision::Refused(_) => 255,
-    }
-}
-
 fn main() {
     let sets = [1u8, 2, 4, 8];
     let planned = Plan::new(4, &sets[0..4], 0, 16, 0);
@@ -38,15 +30,18 @@ fn main() {
     let dealt = receive(begun.rec, &mut cells, 0, &from_dealer);
     let first = close_round(dealt.rec, &mut cells);
     // Round 2: the board's own frame, then those of boards 2 and 3.
-    let mut out = [0u8; 3];
-    send(first, &cells, &mut out[0..1]);
+    let mut frame = [0u8; 1];
+    send(first, &cells, &mut frame);
     let from_2 = [5u8];
     let second = receive(first, &mut cells, 2, &from_2);
     let from_3 = [7u8];
     let third = receive(second.rec, &mut cells, 3, &from_3);
     let last = close_round(third.rec, &mut cells);
-    // The frame, the decision and the list.
-    out[1] = decision_of(last);
-    out[2] = last.detected;
+    // Its frame, the decision and the list.
+    let decision = match decide(last) {
+        Decision::Value(v) => v,
+        Decision::Refused(_) => 255,
+    };
+    let out = [frame[0], decision, last.detected];
     io::write_all(STDOUT_FILENO, &out);
 }
