@@ -1,0 +1,47 @@
+// One board's session in flight: board 1 of four, whose dealer, board 0, tells board 3 another value.
+use board::beginning::begin;
+use board::deciding::decide;
+use board::receiving::receive;
+use board::sending::send;
+use flight::lent::close_lent;
+use libc::STDOUT_FILENO;
+use plan::plan::Plan;
+use protocol::answers::Decision;
+use protocol::records::Record;
+ghost use mathlib.Core.Path.{_≡_};
+ghost use Rattle.flight.specs.Lent.{lentClosing};
+
+// Closes a round: the record is lent to the call.
+fn close_round(r: Record, cells: &mut [u8]) -> Record
+    ensures { λ x. ⌜ (x ≡ lentClosing r (now (cells .entry)) .rec) × (now (cells .exit) ≡ lentClosing r (now (cells .entry)) .cells) ⌝ }
+{
+    let mut own = r;
+    close_lent(&mut own, cells);
+    own
+}
+
+fn main() {
+    let sets = [1u8, 2, 4, 8];
+    let planned = Plan::new(4, &sets[0..4], 0, 16, 0);
+    let mut cells = [0u8; 16];
+    let begun = begin(planned.plan, 1, &mut cells);
+    // Round 1: the dealer's frame.
+    let from_dealer = [5u8];
+    let dealt = receive(begun.rec, &mut cells, 0, &from_dealer);
+    let first = close_round(dealt.rec, &mut cells);
+    // Round 2: the board's own frame, then those of boards 2 and 3.
+    let mut frame = [0u8; 1];
+    send(first, &cells, &mut frame);
+    let from_2 = [5u8];
+    let second = receive(first, &mut cells, 2, &from_2);
+    let from_3 = [7u8];
+    let third = receive(second.rec, &mut cells, 3, &from_3);
+    let last = close_round(third.rec, &mut cells);
+    // Its frame, the decision and the list.
+    let decision = match decide(last) {
+        Decision::Value(v) => v,
+        Decision::Refused(_) => 255,
+    };
+    let out = [frame[0], decision, last.detected];
+    io::write_all(STDOUT_FILENO, &out);
+}
