@@ -83,7 +83,7 @@ fn compare_all(path: &str, sheets: impl Iterator<Item = Named>) -> (Tally, usize
     (tally, differences)
 }
 
-/// What the program prints for a sheet. It may stop reading early.
+/// What the program prints for a sheet, and its status if that is not 0. It may stop reading early.
 fn run_program(path: &str, sheet: &[u8]) -> Vec<u8> {
     let program = Command::new(path)
         .stdin(Stdio::piped())
@@ -91,7 +91,11 @@ fn run_program(path: &str, sheet: &[u8]) -> Vec<u8> {
         .spawn();
     let mut program = program.expect("a program to compare with");
     let _ = program.stdin.take().unwrap().write_all(sheet);
-    program.wait_with_output().expect("its output").stdout
+    let mut output = program.wait_with_output().expect("its output");
+    if !output.status.success() {
+        output.stdout.extend(format!("{}\n", output.status).bytes());
+    }
+    output.stdout
 }
 
 fn report(name: &str, sheet: &[u8], ours: &[u8], theirs: &[u8]) {

@@ -1,0 +1,49 @@
+// Plays case 7 with cells and then with output one byte too short: writes both refusals and how many lent bytes changed.
+use libc::STDOUT_FILENO;
+use printer::printing::report;
+use sheet::playing::play;
+ghost use mathlib.Core.Path.{_≡_};
+ghost use mathlib.Core.Bool.{not};
+ghost use Prim.Native.Nat.{_≤_};
+ghost use lib.Dec.{eqb};
+ghost use lib.ListN.{length, getD};
+ghost use Rattle.sets.specs.Search.{count};
+
+// How many bytes are not x.
+fn count_others(bytes: &[u8], x: u8) -> usize
+    ensures { λ r. ⌜ (r ≡ count (λ i. not (eqb (getD (now (bytes .entry)) i 0) x)) (length (now (bytes .entry)))) × (r ≤ length (now (bytes .entry))) ⌝ }
+{
+    let mut others: usize = 0;
+    let mut i: usize = 0;
+    while i < bytes.len() {
+        if bytes[i] != x {
+            others += 1;
+        }
+        i += 1;
+    }
+    others
+}
+
+fn main() {
+    let text = b"0410000005040102040801\n0101000105\n0101000205\n0101000307\n";
+    let mut cells = [170u8; 13699];
+    let mut few_cells = [170u8; 13698];
+    let mut out = [85u8; 49];
+    let mut short_out = [85u8; 48];
+    let mut shown = [0u8; 9];
+    let few = play(text, &mut few_cells, &mut out);
+    report(few, &mut shown);
+    io::write_all(STDOUT_FILENO, &shown);
+    let short = play(text, &mut cells, &mut short_out);
+    report(short, &mut shown);
+    io::write_all(STDOUT_FILENO, &shown);
+    let in_cells = count_others(&cells, 170) + count_others(&few_cells, 170);
+    let changed = in_cells + count_others(&out, 85) + count_others(&short_out, 85);
+    // A 9 means nine or more.
+    let mut digit: u8 = 57;
+    if changed < 9 {
+        digit = 48 + changed as u8;
+    }
+    let last = [digit, 10];
+    io::write_all(STDOUT_FILENO, &last);
+}

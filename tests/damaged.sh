@@ -1,0 +1,66 @@
+#!/bin/sh
+# Plays damaged sheets under valgrind: no crash, no error in memory, and what the second implementation prints.
+set -u
+cd "$(dirname "$0")/.." || exit 1
+command -v valgrind >/dev/null || {
+    echo "damaged: valgrind is not on the path"
+    exit 1
+}
+sh tests/second/build || exit 1
+folder=$(mktemp -d) || exit 1
+trap 'rm -rf "$folder"' EXIT
+trap 'exit 1' HUP INT TERM
+
+# hurt NAME SHEET COMMAND..: the kept sheet, through the command.
+hurt() {
+    to=$folder/$1.sheet
+    from=tests/corpus/$2.sheet
+    shift 2
+    "$@" <"$from" >"$to"
+}
+
+# Kept sheets of seven boards: cut trees of 14, 16 and 51 lines.
+deep=unequal-b4-n7-run2
+wide=unequal-b5-n7-run1
+long=climbed-b4-n7-run2
+
+hurt untouched $long cat
+hurt lowercase $long tr A-F a-f
+hurt other-character $wide sed '5s/0/G/'
+hurt space $deep sed '3s/^/ /'
+hurt return $deep sed 's/$/\r/'
+hurt odd-digits $long sed '40s/.$//'
+hurt cut-line $wide sed '6s/^\(......\).*/\1/'
+hurt key-only $deep sed '2,9s/^\(........\).*/\1/'
+hurt no-newline $deep sh -c 'printf %s "$(cat)"'
+hurt cut-off $long head -c 500
+hurt swapped-lines $deep sed '4{h;d;};5G'
+hurt doubled-line $long sed '30p'
+hurt empty-line $wide sed '7s/^/\n/'
+hurt empty-lines-last $wide sh -c 'cat; echo; echo'
+hurt short-head $deep sed '1s/^\(............\).*/\1/'
+hurt no-head $deep sed 1d
+hurt byte-00 $long tr 5 '\000'
+hurt byte-FF $deep tr 7 '\377'
+hurt more-values $deep sed '3,8s/$/FFFEFD00FF0102030405060708090A0B0C0D0E0F/'
+hurt no-sets $deep sed '1s/.*/07020004000000/'
+hurt many-sets $deep sh -c 'printf 0702000400FF; head -c 512 /dev/zero | tr "\0" 0; echo; tail -n +2'
+hurt eight-boards $deep sed '1s/^07/08/'
+hurt nonsense $deep head -c 3000 target/bin/bench
+
+played=0
+wrong=0
+for sheet in "$folder"/*.sheet; do
+    name=$(basename "$sheet" .sheet)
+    played=$((played + 1))
+    tests/second/target/release/play <"$sheet" >"$folder/expected"
+    valgrind -q --error-exitcode=9 target/bin/bench <"$sheet" >"$folder/printed"
+    status=$?
+    if [ "$status" -ne 0 ] || ! cmp "$folder/printed" "$folder/expected"; then
+        echo "damaged: $name is wrong (status $status); printed:"
+        cat "$folder/printed"
+        wrong=$((wrong + 1))
+    fi
+done
+echo "damaged: $played sheets, $wrong wrong"
+[ "$wrong" -eq 0 ]
