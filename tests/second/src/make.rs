@@ -25,6 +25,11 @@ pub fn sheet(seed: u64) -> Vec<u8> {
 pub fn good(rng: &mut Prng) -> Sheet {
     let plan = plan(rng);
     let faulty = faulty(&plan, rng);
+    lied_to(plan, faulty, rng)
+}
+
+/// A sheet with frames of the faulty boards for this plan.
+pub fn lied_to(plan: Plan, faulty: Set, rng: &mut Prng) -> Sheet {
     let value = rng.below(plan.span as usize) as u8;
     let mut liar = Liar::new(&plan, faulty, rng);
     play(&plan, value, faulty, &mut liar, None);

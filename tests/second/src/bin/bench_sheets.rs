@@ -1,0 +1,51 @@
+//! bench_sheets DEPTH SETS COUNT DIR   writes sheets of seven boards for the benchmark into a folder
+//!
+//! For depth 0 the tree is full: the set of the boards 0 to 5 gives seven levels under dealer 0.
+//! For another depth the set of the boards 0 to 4 gives six, which are cut, and boards get listed.
+//! That set stands last of SETS. Three of its boards are faulty and send frames.
+
+use second::make;
+use second::plan::{Plan, Set};
+use second::prng::Prng;
+
+fn main() {
+    let args: Vec<String> = std::env::args().skip(1).collect();
+    let number = |place: usize| args.get(place).and_then(|a| a.parse::<u64>().ok());
+    let (Some(depth), Some(sets), Some(count), Some(folder)) =
+        (number(0), number(1), number(2), args.get(3))
+    else {
+        eprintln!("bench_sheets DEPTH SETS COUNT DIR");
+        std::process::exit(2);
+    };
+    for seed in 1..=count {
+        let path = format!("{folder}/{seed}.sheet");
+        std::fs::write(path, sheet(depth as u8, sets, seed)).expect("a folder to write to");
+    }
+}
+
+fn sheet(depth: u8, count: u64, seed: u64) -> Vec<u8> {
+    let mut rng = Prng::new(seed);
+    let large: Set = if depth == 0 { 0x3F } else { 0x1F };
+    let mut sets: Vec<Set> = (1..count).map(|_| other(large, &mut rng)).collect();
+    sets.push(large);
+    let span = rng.pick(&[2, 16, 255]);
+    let plan = Plan {
+        n: 7,
+        sets,
+        dealer: 0,
+        span,
+        depth,
+    };
+    // The dealer is faulty in every other sheet.
+    let faulty = if seed % 2 == 0 { 0b000111 } else { 0b001110 };
+    make::lied_to(plan, faulty, &mut rng).write()
+}
+
+/// A set beside the large one. Board 6 is in none, so no three cover all boards.
+fn other(large: Set, rng: &mut Prng) -> Set {
+    if large == 0x3F {
+        rng.byte() & large
+    } else {
+        rng.byte() & rng.byte() & large | 0x20
+    }
+}
