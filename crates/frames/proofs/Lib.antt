@@ -5,3 +5,4 @@ pub mod Remaining
 pub mod Strokes
 pub mod Sent
 pub mod Own
+pub mod Unreached

@@ -1,5 +1,6 @@
 // The frames of a round: their length, whether one is due, writing one, and storing one.
 use crate::nodes::child_place;
+use crate::reach::reaches;
 use plan::plan::Plan;
 use protocol::records::Record;
 use rules::values::tolerates;
@@ -73,13 +74,16 @@ pub fn frame_length(r: Record, q: u8) -> usize
 
 // Is there a value in the frame of board q, from round 2 on?
 fn has_later(r: Record, q: u8) -> bool
-    requires { ⌜ goodRecord r ≡ true ⌝ }
+    requires { ⌜ (goodRecord r ≡ true) × (q < r .plan .n) ⌝ }
     ensures { λ x. ⌜ x ≡ ltb 0 (length (later r q)) ⌝ }
 {
     let plan = r.plan;
     let n = r.plan.n;
     let dealer = r.plan.dealer;
     let level = r.round.0 - 1;
+    if !reaches(plan, q, level) {
+        return false;
+    }
     let size = level_size(n, level);
     let mut index: usize = 0;
     while index < size {
@@ -95,7 +99,7 @@ fn has_later(r: Record, q: u8) -> bool
 
 // Is there a value in the frame of board q?
 fn has_values(r: Record, q: u8) -> bool
-    requires { ⌜ goodRecord r ≡ true ⌝ }
+    requires { ⌜ (goodRecord r ≡ true) × (q < r .plan .n) ⌝ }
     ensures { λ x. ⌜ x ≡ ltb 0 (length (sent (r .plan) q (r .board) (r .round))) ⌝ }
 {
     let k = r.round.0;

@@ -2,3 +2,4 @@
 pub mod frame;
 pub mod gathering;
 pub mod nodes;
+mod reach;
