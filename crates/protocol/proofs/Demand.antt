@@ -11,9 +11,10 @@ use lib.ListN.{getD}
 use borrow.Author.Tests.{ltb-true, ltb-false}
 use Rattle.sets.specs.Search.{any, count}
 use Rattle.sets.specs.Sets.{member, within}
-use Rattle.sets.proofs.Tests.{cases, clash}
-use Rattle.sets.proofs.Search.{any-same}
-use Rattle.sets.proofs.Count.{count-same}
+use Rattle.sets.proofs.Tests.{cases, clash, and-l, and-r, and-true, not-t, true-not, is-false}
+use Rattle.sets.proofs.Member.{within-member, member-within}
+use Rattle.sets.proofs.Search.{any-same, any-true, any-of}
+use Rattle.sets.proofs.Count.{count-same, count-mono}
 use Rattle.plan.specs.declared.plan.Plan.{Plan}
 use Rattle.plan.specs.declared.schedule.Run.{Run}
 use Rattle.plan.specs.declared.schedule.Round.{Round}
@@ -28,13 +29,14 @@ use Rattle.protocol.specs.declared.records.Record.{Record}
 use Rattle.protocol.specs.Rounds.{Board}
 use Rattle.protocol.specs.Calls.{judgeOpen, judgeRecord, judgeBoard, judgeBeginning, closing, deciding}
 use Rattle.protocol.specs.Session.{Setting, begun, at}
-use Rattle.protocol.specs.Lists.{Call, closes, decides, caller, answers, state, after, keeper, Stands, Taken, Sound, Fair, closings, EndsRun, root, list, onEvery, Agreement, Demand3}
-use Rattle.protocol.specs.Claims.{ended, rootAfter, onEveryList}
+use Rattle.protocol.specs.Lists.{Call, closes, decides, caller, leaves, answers, state, after, keeper, Prefix, Stands, Taken, Sound, Fair, closings, PastLast, EndsRun, root, list, onEvery, listAfter, Agreement, Demand3}
+use Rattle.protocol.specs.Claims.{ended, rootAfter, listEnded}
 use Rattle.protocol.proofs.Judgement.{open-facts, open-taken, record-taken, board-taken, cells-taken, Good}
 use Rattle.protocol.proofs.Reached.{reached-begun, reached-after}
 use Rattle.protocol.proofs.Synchronous.{keeper-facts}
+use Rattle.protocol.proofs.Runs.{lists-grow}
 use Rattle.protocol.proofs.Session.{synchronous}
-use Rattle.protocol.proofs.Prefixes.{Prefix, prefix-refl, prefix-trans, stands-prefix}
+use Rattle.protocol.proofs.Prefixes.{state-next, step-own, prefix-refl, prefix-trans, stands-prefix, stands-next, closings-mono}
 use Rattle.protocol.proofs.Inbox.{took}
 use Rattle.protocol.proofs.Fairness.{adversary, base, Where, hearing-open, run-at, round-at, decided-end, more, open-closing, closing-open, closed-is, whereabouts}
 
@@ -46,6 +48,18 @@ deciding-facts r v e =
     let whole = sym (taken-first (judgeRecord r) (cond (r .decided) (taken (r .decision ∷ [])) (refused 19)) e1) ∙ e in
     let d : r .decided ≡ true = cases (r .decided) (λ x. x) (λ x. absurd (let z : 19 ≡ 0 = rw x at e2 in let y : ⊥ = omega arith in y)) in
     (d, ap (λ (o : Outcome). getD (o .values) 0 0) (sym (ap (λ b. cond b (taken (r .decision ∷ [])) (refused 19)) d) ∙ whole))
+
+-- Who stands on all lists stands on all longer ones.
+every-mono : (s : Setting) (lists more : ℕ → ℕ) (r : ℕ)
+    → ((i : ℕ) → keeper s i ≡ true → member r (lists i) ≡ true → member r (more i) ≡ true)
+    → onEvery s lists r ≡ true → onEvery s more r ≡ true
+unfolding onEvery
+every-mono s lists more r f all =
+    true-not _ (is-false _ (λ y.
+    let (i, l, x) = any-true (λ i. keeper s i && not (member r (more i))) (s .plan .n) y in
+    let ki = and-l (keeper s i) _ x in
+    let off : member r (lists i) ≡ false = is-false _ (λ on. clash (f i ki on) (not-t _ (and-r (keeper s i) _ x))) in
+    clash (any-of (λ i. keeper s i && not (member r (lists i))) (s .plan .n) i l (and-true _ _ ki (true-not _ off))) (not-t _ all)))
 
 module _ (s : Setting) (calls : List Call) (sound : Sound s) (fair : Fair s calls) where
   abbrev plan : Plan
@@ -59,7 +73,8 @@ module _ (s : Setting) (calls : List Call) (sound : Sound s) (fair : Fair s call
     abbrev count-of : ℕ
     count-of = closings (begun s) i before
 
-    list-is : state s before i .rec .detected ≡ base s calls sound fair count-of i .rec .detected
+    list-is : listAfter s before i ≡ base s calls sound fair count-of i .rec .detected
+    unfolding listAfter
     list-is =
         cases (ltb count-of (steps plan))
         (λ x. ap (λ (b : Board). b .rec .detected) (here .here count-of refl (ltb-true count-of (steps plan) x)))
@@ -75,6 +90,9 @@ module _ (s : Setting) (calls : List Call) (sound : Sound s) (fair : Fair s call
 
     decision-is : state s before i .rec .decided ≡ true → state s before i .rec .decision ≡ base s calls sound fair (steps plan) i .rec .decision
     decision-is d = ap (λ (b : Board). b .rec .decision) (here .done (last-step d))
+
+    past-decision : PastLast s before i → state s before i .rec .decision ≡ base s calls sound fair (steps plan) i .rec .decision
+    past-decision z = ap (λ (b : Board). b .rec .decision) (here .done z)
 
     -- Until then no closing is turned down.
     still-open : count-of < steps plan → judgeOpen (state s before i) .number ≡ 0
@@ -95,6 +113,22 @@ module _ (s : Setting) (calls : List Call) (sound : Sound s) (fair : Fair s call
     readable-there : state s before i .rec .decided ≡ true → deciding (state s before i .rec) ≡ taken (state s before i .rec .decision ∷ [])
     unfolding deciding andThen
     readable-there d = rw (record-taken (state s before i .rec) rec-good, d) refl
+
+  -- Lists only grow.
+  grow : (i : ℕ) (before now : List Call) → keeper s i ≡ true → Prefix before now → Prefix now calls
+      → within (listAfter s before i) (listAfter s now i) ≡ true
+  unfolding listAfter
+  grow i before now ki p q =
+      let early = prefix-trans before now calls p q in
+      let j = closings (begun s) i before in
+      let c = closings (begun s) i now in
+      let le : j ≤ c = closings-mono (begun s) i before now p in
+      let z : j + (c - j) ≡ c = omega arith in
+      member-within (state s before i .rec .plan .n) (listAfter s before i) (listAfter s now i) (rec-good before early i ki .detected-below)
+      (λ r _ on. subst (λ x. member r x ≡ true) (sym (list-is now q i ki))
+      (subst (λ x. member r (base s calls sound fair x i .rec .detected) ≡ true) z
+      (lists-grow s (adversary s calls sound fair) sound i ki (c - j) j (omega (arith, here now q i ki .most)) r
+      (subst (λ x. member r x ≡ true) (list-is before early i ki) on))))
 
   -- A decision that was read is that of the session.
   read-is : (i : ℕ) (before : List Call) (v : ℕ) → Stands (decides i) before calls → answers (decides i) (state s before i) ≡ taken (v ∷ [])
@@ -143,8 +177,8 @@ module _ (s : Setting) (calls : List Call) (sound : Sound s) (fair : Fair s call
 
   -- The boards on every list, as those closings left them.
   every : (t : ℕ) (before : ℕ → List Call) → ((i : ℕ) → keeper s i ≡ true → EndsRun s t i (before i) calls) → (r : ℕ)
-      → onEveryList s (adversary s calls sound fair) t r ≡ onEvery s before r
-  unfolding onEvery onEveryList list
+      → onEvery s (listEnded s (adversary s calls sound fair) t) r ≡ onEvery s (λ i. list s i (before i)) r
+  unfolding onEvery listEnded list
   every t before e r =
       ap not (any-same
       (λ i. keeper s i && not (member r (ended s (adversary s calls sound fair) t i .rec .detected)))
@@ -155,19 +189,38 @@ module _ (s : Setting) (calls : List Call) (sound : Sound s) (fair : Fair s call
 
   bounded : isCut plan ≡ true → (t : ℕ) (before : ℕ → List Call) → ((i : ℕ) → keeper s i ≡ true → EndsRun s t i (before i) calls)
       → (i k : ℕ) → keeper s i ≡ true → keeper s k ≡ true → root s i (before i) ≢ root s k (before k)
-      → t * (plan .depth - 3) + 1 ≤ count (onEvery s before) (plan .n)
+      → t * (plan .depth - 3) + 1 ≤ count (onEvery s (λ i. list s i (before i))) (plan .n)
   unfolding root rootAfter
   bounded cut t before e i k ki kk ne =
       let (low-t, high-t) = run-in t i (before i) ki (e i ki) in
       let root-is : (m : ℕ) (km : keeper s m ≡ true) → root s m (before m) ≡ rootAfter s (adversary s calls sound fair) t m =
       λ m km. ap (λ (b : Board). getD (b .cells) 0 blank) (ended-is t m (before m) km (e m km)) in
       subst (λ x. t * (plan .depth - 3) + 1 ≤ x)
-      (count-same (onEveryList s (adversary s calls sound fair) t) (onEvery s before) (plan .n) (λ r _. every t before e r))
+      (count-same (onEvery s (listEnded s (adversary s calls sound fair) t)) (onEvery s (λ i. list s i (before i))) (plan .n) (λ r _. every t before e r))
       (synchronous s (adversary s calls sound fair) sound .bound cut t low-t high-t i k ki kk (λ z. ne (root-is i ki ∙ z ∙ sym (root-is k kk))))
+
+  -- The list that a closing left is the board's list after it.
+  list-left : (i : ℕ) (before : List Call) → list s i before ≡ listAfter s (before ++ (closes i ∷ [])) i
+  unfolding list listAfter leaves caller
+  list-left i before = ap (λ (b : Board). b .rec .detected) (sym (state-next s before (closes i) i ∙ step-own (state s before) (closes i) i refl))
+
+  -- Who stands on all lists that the closings left stands on all of them after the whole list.
+  bounded-now : isCut plan ≡ true → (t : ℕ) (before : ℕ → List Call) → ((i : ℕ) → keeper s i ≡ true → EndsRun s t i (before i) calls)
+      → (i k : ℕ) → keeper s i ≡ true → keeper s k ≡ true → root s i (before i) ≢ root s k (before k)
+      → t * (plan .depth - 3) + 1 ≤ count (onEvery s (listAfter s calls)) (plan .n)
+  bounded-now cut t before e i k ki kk ne =
+      let then : ℕ → ℕ = λ i. list s i (before i) in
+      let more = count-mono (onEvery s then) (onEvery s (listAfter s calls)) (plan .n) (λ r _. every-mono s then (listAfter s calls) r
+      (λ m km on. within-member (listAfter s (before m ++ (closes m ∷ [])) m) (listAfter s calls m)
+      (grow m (before m ++ (closes m ∷ [])) calls km (stands-next (closes m) (before m) calls (e m km .stands)) (prefix-refl calls)) r
+      (subst (λ x. member r x ≡ true) (list-left m (before m)) on))) in
+      let h = bounded cut t before e i k ki kk ne in
+      omega arith
 
   agreement : Agreement s calls
   unfolding answers caller
   agreement = record {
+    grows = grow;
     sound = λ i ki. subst (λ x. within x (s .faulty) ≡ true) (sym (list-is calls (prefix-refl calls) i ki))
         (synchronous s (adversary s calls sound fair) sound .sound (closings (begun s) i calls) i (here calls (prefix-refl calls) i ki .most) ki);
     decided = λ i ki. (
@@ -177,6 +230,11 @@ module _ (s : Setting) (calls : List Call) (sound : Sound s) (fair : Fair s call
     until = λ i before st l.
         open-closing s calls sound fair (state s before i) (still-open before (stands-prefix (closes i) before calls st) i (fair .callers (closes i) before st) l);
     readable = λ i ki d. readable-there calls (prefix-refl calls) i ki d;
+    same = λ i k ki kk z z′.
+        past-decision calls (prefix-refl calls) i ki z
+        ∙ synchronous s (adversary s calls sound fair) sound .equal i k ki kk
+        ∙ sym (past-decision calls (prefix-refl calls) k kk z′);
+    valid = λ f i ki z. past-decision calls (prefix-refl calls) i ki z ∙ synchronous s (adversary s calls sound fair) sound .dealers f i ki;
     equal = λ i k before before′ v v′ st st′ e e′.
         let (ki, x) = read-is i before v st e in
         let (kk, y) = read-is k before′ v′ st′ e′ in
@@ -185,6 +243,7 @@ module _ (s : Setting) (calls : List Call) (sound : Sound s) (fair : Fair s call
         let (ki, x) = read-is i before v st e in
         x ∙ synchronous s (adversary s calls sound fair) sound .dealers f i ki;
     bound = bounded;
+    bound-now = bounded-now;
   }
 
 pub demand3 : Demand3

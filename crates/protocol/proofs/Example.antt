@@ -1,4 +1,4 @@
--- The list of specs/Example is fair: demand 3 speaks of it, and what it does is computed.
+-- The list of specs/Example is fair, by both wordings: demand 3 speaks of it, and what it does is computed.
 -- Assumes nothing.
 use Prim.Native.Nat.{ℕ, _≤_}
 use mathlib.Core.Path.{_≡_, refl}
@@ -23,10 +23,11 @@ use Rattle.protocol.specs.Detection.{vote, tabulate, resolve, resolveRoo
 use Rattle.protocol.specs.Rounds.{fill, counted, receive, fillMissing, copyOwn, gather, rootOnly, nextRound, convert, close}
 use Rattle.protocol.specs.Calls.{isTaken, judgeBoard, judgeCells, goodMarks, goodDecision, goodRecord, judgeRecord, judgeOpen, freshRecord, voidRecord, judgeBeginning, beginning, dealing, judgeReceiving, receiving, frameOf, judgeSending, sending, closedValues, closing, deciding}
 use Rattle.protocol.specs.Session.{begun}
-use Rattle.protocol.specs.Lists.{Agreement, answers, after, caller, keeper, leaves, state, step, Sound, Fair}
+use Rattle.protocol.specs.Lists.{Agreement, answers, after, caller, keeper, leaves, state, step, Sound, Fair, StrictlyFair}
 use Rattle.protocol.specs.Cases.{sameList}
 use Rattle.protocol.specs.Example.{exampleSetting, exampleAhead, exampleRest, exampleCalls, said, exampleAnswers}
-use Rattle.protocol.proofs.FairCheck.{everywhere, somewhere, alike, writes, hands, truthful, lacks, fairCall, fairCheck, checkedFair}
+use Rattle.protocol.proofs.FairCheck.{everywhere, somewhere, alike, writes, hands, truthful, lacks, fairCall, fairCheck, carriesCall, carriesCheck, checked-strictly}
+use Rattle.protocol.proofs.Strict.{strictly-fair}
 use Rattle.protocol.proofs.Demand.{demand3}
 
 -- What is computed from the definitions.
@@ -36,6 +37,7 @@ pub record Computed : Type 0 where
   pub tolerable : tolerated (listed (exampleSetting .plan)) (exampleSetting .faulty) ≡ true
   pub word-below : ltb (exampleSetting .word) (exampleSetting .plan .span) ≡ true
   pub fair : fairCheck exampleSetting exampleCalls ≡ true
+  pub carries : carriesCheck exampleSetting exampleCalls ≡ true
   -- what each call answers
   pub answered : said (begun exampleSetting) exampleCalls ≡ exampleAnswers
   -- board 1 is a round ahead of board 2, and has the liar's frame
@@ -54,12 +56,13 @@ pub record Computed : Type 0 where
   pub cells2 : state exampleSetting exampleCalls 2 .cells ≡ (5 ∷ replicate 15 255) ++ (7 ∷ [])
 
 pub computed : Computed
-unfolding first any count member union insert within boards setOf size holder isSome tolerated strays covers thirdPlace secondPlace firstPlace covered listed largest height isCut rounds runs firstRound hasRound covering admitting andThen isDepth settings planning planOn judged occurs mask last levelSize levelStart cellCount ordinal rank place blank cellAt store default value read filter internal nodes inner sent due frame only same vote tabulate resolve resolveRoot explained byCell byResolving join passes maskBoard detect1 detectAll1 detect2 detectAll2 detectLevels fill counted receive fillMissing copyOwn gather rootOnly nextRound convert close isTaken judgeBoard judgeCells goodMarks goodDecision goodRecord judgeRecord judgeOpen freshRecord voidRecord judgeBeginning beginning dealing judgeReceiving receiving frameOf judgeSending sending closedValues closing deciding begun answers after caller keeper leaves state step sameList exampleSetting exampleAhead exampleRest exampleCalls said everywhere somewhere alike writes hands truthful lacks fairCall fairCheck exampleAnswers
+unfolding first any count member union insert within boards setOf size holder isSome tolerated strays covers thirdPlace secondPlace firstPlace covered listed largest height isCut rounds runs firstRound hasRound covering admitting andThen isDepth settings planning planOn judged occurs mask last levelSize levelStart cellCount ordinal rank place blank cellAt store default value read filter internal nodes inner sent due frame only same vote tabulate resolve resolveRoot explained byCell byResolving join passes maskBoard detect1 detectAll1 detect2 detectAll2 detectLevels fill counted receive fillMissing copyOwn gather rootOnly nextRound convert close isTaken judgeBoard judgeCells goodMarks goodDecision goodRecord judgeRecord judgeOpen freshRecord voidRecord judgeBeginning beginning dealing judgeReceiving receiving frameOf judgeSending sending closedValues closing deciding begun answers after caller keeper leaves state step sameList exampleSetting exampleAhead exampleRest exampleCalls said everywhere somewhere alike writes hands truthful lacks fairCall fairCheck carriesCall carriesCheck exampleAnswers
 computed = record {
   accepted = refl;
   tolerable = refl;
   word-below = refl;
   fair = refl;
+  carries = refl;
   answered = refl;
   ahead = refl;
   behind = refl;
@@ -89,8 +92,12 @@ example-sound = record {
   cells-enough = λ i _. enough (eqb i 2);
 }
 
+-- It is fair by the sentences of 01 too.
+pub example-strictly-fair : StrictlyFair exampleSetting exampleCalls
+example-strictly-fair = checked-strictly exampleSetting exampleCalls (computed .fair) (computed .carries)
+
 pub example-fair : Fair exampleSetting exampleCalls
-example-fair = checkedFair exampleSetting exampleCalls (computed .fair)
+example-fair = strictly-fair exampleSetting exampleCalls example-strictly-fair
 
 pub example-agrees : Agreement exampleSetting exampleCalls
 example-agrees = demand3 exampleSetting exampleCalls example-sound example-fair

@@ -1,8 +1,8 @@
--- A test of fairness, and that what passes it is fair.
+-- Tests of fairness, and that what passes them is fair, or fair by the sentences of 01.
 -- Assumes nothing.
 use Prim.Native.Nat.{ℕ}
 use mathlib.Core.Path.{_≡_, refl, sym, _∙_, ap, ap₂, subst}
-use mathlib.Core.Logic.{_≢_, ⊎-elim}
+use mathlib.Core.Logic.{⊎-elim}
 use mathlib.Core.Bool.{Bool, true, false, not, _&&_, _||_, cond}
 use mathlib.Core.List.{List, [], _∷_, _++_, append-nil, nil≢cons, head-eq-of-cons-eq, tail-eq-of-cons-eq}
 use lib.Dec.{eqb}
@@ -19,7 +19,7 @@ use Rattle.plan.specs.Outcome.{Outcome, taken}
 use Rattle.protocol.specs.Nodes.{due}
 use Rattle.protocol.specs.Calls.{isTaken, dealing, sending}
 use Rattle.protocol.specs.Session.{Setting}
-use Rattle.protocol.specs.Lists.{Call, receives, sends, closes, decides, caller, answers, state, keeper, Stands, Taken, SameRound, Written, HandedIn, Fair}
+use Rattle.protocol.specs.Lists.{Call, receives, sends, closes, decides, caller, answers, state, keeper, Stands, Taken, SameRound, Written, AsSent, HandedIn, HandedInAsSent, Fair, StrictlyFair}
 use Rattle.protocol.specs.Cases.{sameList}
 use Rattle.protocol.proofs.Judgement.{is-taken, taken-is}
 use Rattle.protocol.proofs.Reached.{due-sender}
@@ -137,42 +137,60 @@ writes-written s before i q f earlier (sends j out) st e =
 writes-written s before i q f earlier (closes j) st e = clash e refl
 writes-written s before i q f earlier (decides j) st e = clash e refl
 
--- A handing in to board i from board q that was taken, in the run and round in which board i stands.
+-- The frame that board q, outside F, sent.
+unfoldable pub truthful : Setting → List Call → ℕ → ℕ → List ℕ → Bool
+truthful s before i q f =
+    let dealt = sameList f (dealing (s .plan) (s .word) .values) in
+    let written = somewhere (writes s before i q f) [] before in
+    cond (eqb q (s .plan .dealer)) dealt written
+
+pub truthful-sent : (s : Setting) (before : List Call) (i q : ℕ) (f : List ℕ) → truthful s before i q f ≡ true → AsSent s before i q f
+unfolding truthful
+truthful-sent s before i q f told =
+    let dealt = sameList f (dealing (s .plan) (s .word) .values) in
+    let written = somewhere (writes s before i q f) [] before in
+    record {
+      dealt = λ is. same-list f (dealing (s .plan) (s .word) .values) (sym (ap (λ x. cond x dealt written) (eq-eqb q (s .plan .dealer) is)) ∙ told);
+      written = λ other.
+          let p = somewhere-at (writes s before i q f) [] before (sym (ap (λ x. cond x dealt written) (ne-eqb q (s .plan .dealer) other)) ∙ told) in
+          writes-written s before i q f (p .before) (p .call) (p .stands) (p .passes);
+    }
+
+-- A handing in to board i from board q, outside F, of the frame that q sent, which was taken in the run and round in which board i stands.
 unfoldable pub hands : Setting → List Call → ℕ → ℕ → List Call → Call → Bool
 hands s before i q earlier (receives j p f) =
-    (eqb j i && eqb p q) && (isTaken (answers (receives i q f) (state s earlier i)) && alike s i earlier i before)
+    (eqb j i && eqb p q)
+    && ((isTaken (answers (receives i q f) (state s earlier i)) && alike s i earlier i before) && truthful s earlier i q f)
 hands s before i q earlier (sends j out) = false
 hands s before i q earlier (closes j) = false
 hands s before i q earlier (decides j) = false
 
 pub hands-handed : (s : Setting) (before : List Call) (i q : ℕ) (earlier : List Call) (c : Call)
-    → Stands c earlier before → hands s before i q earlier c ≡ true → HandedIn s before i q
+    → Stands c earlier before → hands s before i q earlier c ≡ true → HandedInAsSent s before i q
 unfolding hands caller
 hands-handed s before i q earlier (receives j p f) st e =
     let a = answers (receives i q f) (state s earlier i) in
     let who = eqb j i && eqb p q in
     let when = isTaken a && alike s i earlier i before in
-    let front : who ≡ true = and-l who when e in
-    let back : when ≡ true = and-r who when e in
+    let told = truthful s earlier i q f in
+    let front : who ≡ true = and-l who (when && told) e in
+    let back : (when && told) ≡ true = and-r who (when && told) e in
+    let then : when ≡ true = and-l when told back in
     let to : j ≡ i = eqb-true j i (and-l (eqb j i) (eqb p q) front) in
     let from : p ≡ q = eqb-true p q (and-r (eqb j i) (eqb p q) front) in
     record {
-      earlier = earlier;
-      sent = f;
-      stands = subst (λ k. Stands (receives i k f) earlier before) from (subst (λ k. Stands (receives k p f) earlier before) to st);
-      taken = is-taken a (and-l (isTaken a) (alike s i earlier i before) back);
-      same = alike-same s i earlier i before (and-r (isTaken a) (alike s i earlier i before) back);
+      handed = record {
+        earlier = earlier;
+        frame = f;
+        stands = subst (λ k. Stands (receives i k f) earlier before) from (subst (λ k. Stands (receives k p f) earlier before) to st);
+        taken = is-taken a (and-l (isTaken a) (alike s i earlier i before) then);
+        same = alike-same s i earlier i before (and-r (isTaken a) (alike s i earlier i before) then);
+      };
+      as-sent = truthful-sent s earlier i q f (and-r when told back);
     }
 hands-handed s before i q earlier (sends j out) st e = clash e refl
 hands-handed s before i q earlier (closes j) st e = clash e refl
 hands-handed s before i q earlier (decides j) st e = clash e refl
-
--- The frame that board q, outside F, sent.
-unfoldable pub truthful : Setting → List Call → ℕ → ℕ → List ℕ → Bool
-truthful s before i q f =
-    let given = sameList f (dealing (s .plan) (s .word) .values) in
-    let written = somewhere (writes s before i q f) [] before in
-    cond (eqb q (s .plan .dealer)) given written
 
 -- A frame that board i lacks.
 unfoldable pub lacks : Setting → List Call → ℕ → ℕ → Bool
@@ -181,8 +199,7 @@ lacks s before i q =
 
 -- What fairness asks of a call.
 unfoldable pub fairCall : Setting → List Call → Call → Bool
-fairCall s before (receives i q f) =
-    keeper s i && (not (isTaken (answers (receives i q f) (state s before i))) || (member q (s .faulty) || truthful s before i q f))
+fairCall s before (receives i q f) = keeper s i
 fairCall s before (sends i out) = keeper s i
 fairCall s before (closes i) =
     keeper s i && (not (isTaken (answers (closes i) (state s before i))) || not (any (lacks s before i) (s .plan .n)))
@@ -194,49 +211,62 @@ fairCheck s calls = everywhere (fairCall s) [] calls
 -- From the test to fairness.
 pub fair-caller : (s : Setting) (before : List Call) (c : Call) → fairCall s before c ≡ true → keeper s (caller c) ≡ true
 unfolding fairCall caller
-fair-caller s before (receives i q f) e = and-l (keeper s i) _ e
+fair-caller s before (receives i q f) e = e
 fair-caller s before (sends i out) e = e
 fair-caller s before (closes i) e = and-l (keeper s i) _ e
 fair-caller s before (decides i) e = e
 
 -- A call that is taken meets what is asked of taken calls.
-pub if-taken : (k : Bool) (o : Outcome) (b : Bool) → (k && (not (isTaken o) || b)) ≡ true → o .number ≡ 0 → b ≡ true
-if-taken k o b e t = let z : (not (isTaken o) || b) ≡ true = and-r k (not (isTaken o) || b) e in rw (taken-is o t) at z
-
-pub fair-carried : (s : Setting) (i q : ℕ) (f : List ℕ) (before : List Call) → fairCall s before (receives i q f) ≡ true
-    → Taken s (receives i q f) before → member q (s .faulty) ≡ false
-    → (q ≡ s .plan .dealer → f ≡ dealing (s .plan) (s .word) .values) × (q ≢ s .plan .dealer → Written s before i q f)
-unfolding fairCall caller truthful
-fair-carried s i q f before e t h =
-    let dealt = sameList f (dealing (s .plan) (s .word) .values) in
-    let written = somewhere (writes s before i q f) [] before in
-    let a = answers (receives i q f) (state s before i) in
-    let z : (member q (s .faulty) || truthful s before i q f) ≡ true = if-taken (keeper s i) a _ e t in
-    let told : truthful s before i q f ≡ true = ⊎-elim (λ x. clash x h) (λ x. x) (or-true (member q (s .faulty)) (truthful s before i q f) z) in (
-      λ is. same-list f (dealing (s .plan) (s .word) .values) (sym (ap (λ x. cond x dealt written) (eq-eqb q (s .plan .dealer) is)) ∙ told),
-      λ other.
-          let p = somewhere-at (writes s before i q f) [] before (sym (ap (λ x. cond x dealt written) (ne-eqb q (s .plan .dealer) other)) ∙ told) in
-          writes-written s before i q f (p .before) (p .call) (p .stands) (p .passes),
-    )
+pub if-taken : (o : Outcome) (b : Bool) → (not (isTaken o) || b) ≡ true → o .number ≡ 0 → b ≡ true
+if-taken o b e t = rw (taken-is o t) at e
 
 pub fair-heard : (s : Setting) (i : ℕ) (before : List Call) → fairCall s before (closes i) ≡ true → Taken s (closes i) before
-    → (q : ℕ) → member q (s .faulty) ≡ false → due (s .plan) q i (state s before i .rec .round) ≡ true → HandedIn s before i q
+    → (q : ℕ) → member q (s .faulty) ≡ false → due (s .plan) q i (state s before i .rec .round) ≡ true → HandedInAsSent s before i q
 unfolding fairCall caller lacks
 fair-heard s i before e t q h d =
     let k = state s before i .rec .round in
     let handed = somewhere (hands s before i q) [] before in
-    let none : any (lacks s before i) (s .plan .n) ≡ false = not-t _ (if-taken (keeper s i) (answers (closes i) (state s before i)) _ e t) in
+    let none : any (lacks s before i) (s .plan .n) ≡ false = not-t _ (if-taken (answers (closes i) (state s before i)) _ (and-r (keeper s i) _ e) t) in
     let there : handed ≡ true = cases handed (λ x. x) (λ x. clash (any-of (lacks s before i) (s .plan .n) q (due-sender (s .plan) q i k d)
     (and-true (due (s .plan) q i k) _ d (and-true (not (member q (s .faulty))) (not handed) (true-not _ h) (true-not handed x)))) none) in
     let p = somewhere-at (hands s before i q) [] before there in
     hands-handed s before i q (p .before) (p .call) (p .stands) (p .passes)
 
-pub checkedFair : (s : Setting) (calls : List Call) → fairCheck s calls ≡ true → Fair s calls
+pub checked-fair : (s : Setting) (calls : List Call) → fairCheck s calls ≡ true → Fair s calls
 unfolding fairCheck
-checkedFair s calls e =
+checked-fair s calls e =
     let each : (c : Call) (before : List Call) → Stands c before calls → fairCall s before c ≡ true = everywhere-at (fairCall s) [] calls e in
     record {
       callers = λ c before st. fair-caller s before c (each c before st);
-      carried = λ i q f before st. fair-carried s i q f before (each (receives i q f) before st);
       heard = λ i before st. fair-heard s i before (each (closes i) before st);
+    }
+
+-- What the first sentence of 01 asks of a call beside it.
+unfoldable pub carriesCall : Setting → List Call → Call → Bool
+carriesCall s before (receives i q f) =
+    not (isTaken (answers (receives i q f) (state s before i))) || (member q (s .faulty) || truthful s before i q f)
+carriesCall s before (sends i out) = true
+carriesCall s before (closes i) = true
+carriesCall s before (decides i) = true
+
+unfoldable pub carriesCheck : Setting → List Call → Bool
+carriesCheck s calls = everywhere (carriesCall s) [] calls
+
+pub carries-sent : (s : Setting) (i q : ℕ) (f : List ℕ) (before : List Call) → carriesCall s before (receives i q f) ≡ true
+    → Taken s (receives i q f) before → member q (s .faulty) ≡ false → AsSent s before i q f
+unfolding carriesCall caller
+carries-sent s i q f before e t h =
+    let told = truthful s before i q f in
+    truthful-sent s before i q f
+    (⊎-elim (λ x. clash x h) (λ x. x)
+    (or-true (member q (s .faulty)) told (if-taken (answers (receives i q f) (state s before i)) (member q (s .faulty) || told) e t)))
+
+pub checked-strictly : (s : Setting) (calls : List Call) → fairCheck s calls ≡ true → carriesCheck s calls ≡ true → StrictlyFair s calls
+unfolding carriesCheck
+checked-strictly s calls e e′ =
+    let fair = checked-fair s calls e in
+    record {
+      callers = fair .callers;
+      carried = λ i q f before st. carries-sent s i q f before (everywhere-at (carriesCall s) [] calls e′ (receives i q f) before st);
+      heard = λ i before st ok q fq d. fair .heard i before st ok q fq d .handed;
     }

@@ -28,13 +28,13 @@ use Rattle.protocol.specs.Nodes.{sent, due, frame}
 use Rattle.protocol.specs.Rounds.{Board, counted, receive}
 use Rattle.protocol.specs.Calls.{isTaken, judgeOpen, judgeReceiving, receiving, frameOf, judgeSending, sending, closing, dealing}
 use Rattle.protocol.specs.Session.{Adversary, Setting, begun, hears, boardAt, session, at}
-use Rattle.protocol.specs.Lists.{Call, isClosing, receives, sends, closes, decides, caller, leaves, answers, step, state, after, keeper, Stands, Taken, Sound, SameRound, Written, HandedIn, Fair, closings}
+use Rattle.protocol.specs.Lists.{Call, isClosing, receives, sends, closes, decides, caller, leaves, answers, step, state, after, keeper, Prefix, Stands, Taken, Sound, SameRound, Written, AsSent, HandedIn, HandedInAsSent, Fair, closings}
 use Rattle.protocol.proofs.Judgement.{is-taken, taken-is, Good, Open, open-facts, open-taken}
 use Rattle.protocol.proofs.Reached.{receiving-facts, receiving-taken, receiving-refused, due-sender, closing-refused}
 use Rattle.protocol.proofs.Hearing.{withTaken, hear, marks, heardCells, accepts, content, isGiven, heard-open, hear-shape}
 use Rattle.protocol.proofs.Synchronous.{canon, Standing, standing, keeper-facts, at-start, at-next, told}
 use Rattle.protocol.proofs.Session.{synchronous}
-use Rattle.protocol.proofs.Prefixes.{state-next, step-own, step-other, takes, takes-other, takes-refused, ends, ends-not, ends-untaken, closings-same, closings-taken, closings-mono, Prefix, prefix-refl, prefix-trans, stands-prefix, stands-in, along}
+use Rattle.protocol.proofs.Prefixes.{state-next, step-own, step-other, takes, takes-other, takes-refused, ends, ends-not, ends-untaken, closings-same, closings-taken, closings-mono, prefix-refl, prefix-trans, stands-prefix, along}
 use Rattle.protocol.proofs.Inbox.{took, isFrom, enters-not, enters-from, enters-untaken, took-skip, took-at, took-here, took-closed, took-new}
 use Rattle.protocol.proofs.AnyOrder.{update, update-here, update-other, heard-more, heard-taken, heard-same, heard-none, heard-frame}
 
@@ -200,9 +200,10 @@ module _ (s : Setting) (calls : List Call) (sound : Sound s) (fair : Fair s call
         → took (begun s) i j q before ≡ told s adversary i j q
     unfolding answers caller state receiving
     handed q lq fq d =
-        let h = fair .heard i before stands ok q fq (subst (λ k. due plan q i k ≡ true) (sym (round-at before i now j e l)) d) in
+        let brought = fair .heard i before stands ok q fq (subst (λ k. due plan q i k ≡ true) (sym (round-at before i now j e l)) d) in
+        let h = brought .handed in
         let then = h .earlier in
-        let f = h .sent in
+        let f = h .frame in
         let within-it = stands-prefix (receives i q f) then before (h .stands) in
         let w = past then within-it i ki in
         let c = closings (begun s) i then in
@@ -211,12 +212,11 @@ module _ (s : Setting) (calls : List Call) (sound : Sound s) (fair : Fair s call
         (sym (round-at then i w c refl lc) ∙ h .same .round ∙ round-at before i now j e l) in
         let (_, _, none-yet) = hearing-taken j i ki l (λ x. took (begun s) i j x then) q (ap (λ b. judgeReceiving b q .number) (sym (w .here j same l)) ∙ h .taken) in
         let got : took (begun s) i j q before ≡ some f = took-at (begun s) i j q f then before (h .stands) (h .taken) same none-yet in
-        let (by-dealer, by-board) = fair .carried i q f then (stands-in (receives i q f) then before calls (h .stands) (stands-prefix (closes i) before calls stands)) (h .taken) fq in
         cases (eqb q (plan .dealer))
-        (λ x. let z = eqb-true q (plan .dealer) x in got ∙ ap some (by-dealer z) ∙ sym (told-dealer i q j fq z))
+        (λ x. let z = eqb-true q (plan .dealer) x in got ∙ ap some (brought .as-sent .dealt z) ∙ sym (told-dealer i q j fq z))
         (λ x. let ne = eqb-false q (plan .dealer) x in
         let kq = keeper-is q lq fq ne in
-        let v = by-board ne in
+        let v = brought .as-sent .written ne in
         let prior = past (v .earlier) (prefix-trans (v .earlier) then before (stands-prefix (sends q (v .out)) (v .earlier) then (v .stands)) within-it) q kq in
         got ∙ ap some (written-is then i q f j kq l (run-at then i w j same l) (round-at then i w j same l) v prior) ∙ sym (told-keeper i q j kq))
 

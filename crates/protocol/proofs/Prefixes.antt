@@ -11,7 +11,7 @@ use lib.Seq.{append-snoc}
 use borrow.Author.Tests.{eq-eqb, ne-eqb}
 use Rattle.sets.proofs.Tests.{cases}
 use Rattle.protocol.specs.Session.{Setting, begun}
-use Rattle.protocol.specs.Lists.{Call, closes, caller, leaves, answers, World, step, after, state, Stands, isClosing, closings}
+use Rattle.protocol.specs.Lists.{Call, closes, caller, leaves, answers, World, step, after, state, Prefix, Stands, isClosing, closings}
 
 -- The boards.
 pub after-append : (w : World) (xs ys : List Call) → after w (xs ++ ys) ≡ after (after w xs) ys
@@ -82,9 +82,6 @@ pub closings-taken : (w : World) (i : ℕ) (before : List Call) → answers (clo
 closings-taken w i before t = let z = closings-next w i before (closes i) in let y = rw (ends-closes (after w before) i t) at z in omega arith
 
 -- A list begins with another.
-abbrev pub Prefix : List Call → List Call → Type 0
-Prefix a b = (rest : List Call) × (b ≡ a ++ rest)
-
 pub prefix-refl : (a : List Call) → Prefix a a
 prefix-refl a = ([], sym (append-nil a))
 

@@ -27,8 +27,8 @@ use Rattle.theory.proofs.Agreement.{persistence, validity, detection, cut-agree
 use Rattle.protocol.specs.declared.records.Record.{Record}
 use Rattle.protocol.specs.Rounds.{Board, rootOnly, convert, close}
 use Rattle.protocol.specs.Session.{Adversary, Setting, at}
-use Rattle.protocol.specs.Lists.{keeper, Sound}
-use Rattle.protocol.specs.Claims.{ended, rootAfter, onEveryList, SessionAgreement, Synchronous}
+use Rattle.protocol.specs.Lists.{keeper, Sound, onEvery}
+use Rattle.protocol.specs.Claims.{ended, rootAfter, listEnded, SessionAgreement, Synchronous}
 use Rattle.protocol.proofs.Judgement.{plan-facts}
 use Rattle.protocol.proofs.Instance.{inst, tol}
 use Rattle.protocol.proofs.Reached.{close-good, close-plan}
@@ -109,8 +109,8 @@ module _ (s : Setting) (a : Adversary) (sound : Sound s) where
       (λ e. full-agreement G S (small-sets e) last-run in-runs (healthy s a sound i ki) (healthy s a sound k kk))
 
   -- The boards on every list, as the theory has them.
-  every-list : (t : ℕ) → t < runs plan .0 → (r : ℕ) → U.global (inst plan) (listOf F) (lists s a sound (suc t)) r ≡ onEveryList s a (suc t) r
-  unfolding U.allHealthy onEveryList ended keeper
+  every-list : (t : ℕ) → t < runs plan .0 → (r : ℕ) → U.global (inst plan) (listOf F) (lists s a sound (suc t)) r ≡ onEvery s (listEnded s a (suc t)) r
+  unfolding U.allHealthy onEvery listEnded ended keeper
   every-list t lt r =
       ap not (any-same
       (U.fails (inst plan) (listOf F) (λ i. lists s a sound (suc t) i r))
@@ -136,7 +136,7 @@ module _ (s : Setting) (a : Adversary) (sound : Sound s) where
           i (healthy s a sound i ki)
 
       bounded : isCut plan ≡ true → (t t′ : ℕ) → t′ ≡ suc t → t′ ≤ runs plan .0 → (i k : ℕ) → keeper s i ≡ true → keeper s k ≡ true
-          → rootAfter s a t′ i ≢ rootAfter s a t′ k → t′ * (plan .depth - 3) + 1 ≤ count (onEveryList s a t′) (plan .n)
+          → rootAfter s a t′ i ≢ rootAfter s a t′ k → t′ * (plan .depth - 3) + 1 ≤ count (onEvery s (listEnded s a t′)) (plan .n)
       bounded e t t′ et high i k ki kk ne =
           let four = cut-four plan (sound .accepted) e in
           let r = ap (λ x. x .0) (rounds-cut plan e) in
@@ -144,8 +144,8 @@ module _ (s : Setting) (a : Adversary) (sound : Sound s) where
           let many = detection (good s a sound) (session s a sound) (plan .depth - 3) (let z : rounds plan .0 - 1 ≡ suc (suc (plan .depth - 3)) = omega arith in z)
           t lt (healthy s a sound i ki) (healthy s a sound k kk)
           (λ z. ne (subst (λ x. rootAfter s a x i ≡ rootAfter s a x k) (sym et) (root-after t lt i ki ∙ z ∙ sym (root-after t lt k kk)))) in
-          let same = count-same (U.global (inst plan) (listOf F) (lists s a sound (suc t))) (onEveryList s a (suc t)) (plan .n) (λ q _. every-list t lt q) in
-          subst (λ x. x * (plan .depth - 3) + 1 ≤ count (onEveryList s a x) (plan .n)) (sym et) (omega arith)
+          let same = count-same (U.global (inst plan) (listOf F) (lists s a sound (suc t))) (onEvery s (listEnded s a (suc t))) (plan .n) (λ q _. every-list t lt q) in
+          subst (λ x. x * (plan .depth - 3) + 1 ≤ count (onEvery s (listEnded s a x)) (plan .n)) (sym et) (omega arith)
 
 pub synchronous : Synchronous
 synchronous = session-agreement

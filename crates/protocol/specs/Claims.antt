@@ -2,15 +2,15 @@
 use Prim.Native.Nat.{ℕ, _+_, _-_, _*_, _≤_}
 use mathlib.Core.Path.{_≡_}
 use mathlib.Core.Logic.{_≢_}
-use mathlib.Core.Bool.{Bool, true, false, not, _&&_}
+use mathlib.Core.Bool.{true, false}
 use lib.ListN.{getD}
-use Rattle.sets.specs.Search.{any, count}
+use Rattle.sets.specs.Search.{count}
 use Rattle.sets.specs.Sets.{member, within}
 use Rattle.plan.specs.Schedule.{isCut, rounds, runs, steps, step}
 use Rattle.tree.specs.Cells.{blank}
 use Rattle.protocol.specs.Rounds.{Board}
 use Rattle.protocol.specs.Session.{Adversary, Setting, at}
-use Rattle.protocol.specs.Lists.{keeper, Sound}
+use Rattle.protocol.specs.Lists.{keeper, Sound, onEvery}
 
 -- Board i as its closing of round R in run t left it.
 unfoldable pub ended : Setting → Adversary → ℕ → ℕ → Board
@@ -20,9 +20,9 @@ ended s a t i = at s a (step (s .plan) (record { 0 = t }) (rounds (s .plan))) i
 unfoldable pub rootAfter : Setting → Adversary → ℕ → ℕ → ℕ
 rootAfter s a t i = getD (ended s a t i .cells) 0 blank
 
--- Does board r stand on the list of every board outside F that keeps cells, as run t ends?
-unfoldable pub onEveryList : Setting → Adversary → ℕ → ℕ → Bool
-onEveryList s a t r = not (any (λ i. keeper s i && not (member r (ended s a t i .rec .detected))) (s .plan .n))
+-- Board i's list then.
+unfoldable pub listEnded : Setting → Adversary → ℕ → ℕ → ℕ
+listEnded s a t i = ended s a t i .rec .detected
 
 pub record SessionAgreement (s : Setting) (a : Adversary) : Type 0 where
   -- every list of a board outside F lies within F, after every step
@@ -39,7 +39,7 @@ pub record SessionAgreement (s : Setting) (a : Adversary) : Type 0 where
       → (i : ℕ) → keeper s i ≡ true → rootAfter s a u i ≡ v
   -- if roots after run t of a cut tree are unequal, at least t × (b − 3) + 1 boards stand on all these lists
   pub bound : isCut (s .plan) ≡ true → (t : ℕ) → 1 ≤ t → t ≤ runs (s .plan) .0 → (i k : ℕ) → keeper s i ≡ true → keeper s k ≡ true
-      → rootAfter s a t i ≢ rootAfter s a t k → t * (s .plan .depth - 3) + 1 ≤ count (onEveryList s a t) (s .plan .n)
+      → rootAfter s a t i ≢ rootAfter s a t k → t * (s .plan .depth - 3) + 1 ≤ count (onEvery s (listEnded s a t)) (s .plan .n)
 
 -- Agreement of the synchronous session.
 abbrev pub Synchronous : Type 0

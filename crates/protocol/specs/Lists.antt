@@ -67,6 +67,10 @@ keeper s i = ltb i (s .plan .n) && (not (member i (s .faulty)) && not (eqb i (s 
 unfoldable pub state : Setting → List Call → ℕ → Board
 state s calls = after (begun s) calls
 
+-- A list begins with another.
+abbrev pub Prefix : List Call → List Call → Type 0
+Prefix before calls = (rest : List Call) × (calls ≡ before ++ rest)
+
 -- The call stands in the list after the calls `before`.
 abbrev pub Stands : Call → List Call → List Call → Type 0
 Stands c before calls = (rest : List Call) × (calls ≡ before ++ (c ∷ rest))
@@ -97,22 +101,40 @@ pub record Written (s : Setting) (before : List Call) (i q : ℕ) (f : List ℕ)
   pub same : SameRound s q earlier i before
   pub gave : f ≡ take size (sending (state s earlier q) out .out)
 
+-- 01: "the frame which that board sent this receiver for the run and round that it is taken for: d's frame in round 1, else what a writing
+-- of the sender in that run and round gave earlier in the list". From board q, outside F, to board i as it stands after the calls `before`.
+pub record AsSent (s : Setting) (before : List Call) (i q : ℕ) (f : List ℕ) : Type 0 where
+  pub dealt : q ≡ s .plan .dealer → f ≡ dealing (s .plan) (s .word) .values
+  pub written : q ≢ s .plan .dealer → Written s before i q f
+
 -- 01: "was handed in", in the run and round in which board i stands.
 pub record HandedIn (s : Setting) (before : List Call) (i q : ℕ) : Type 0 where
   pub earlier : List Call
-  pub sent : List ℕ
-  pub stands : Stands (receives i q sent) earlier before
-  pub taken : Taken s (receives i q sent) earlier
+  pub frame : List ℕ
+  pub stands : Stands (receives i q frame) earlier before
+  pub taken : Taken s (receives i q frame) earlier
   pub same : SameRound s i earlier i before
 
+-- The user's words: "as they sent them, were handed in and taken".
+pub record HandedInAsSent (s : Setting) (before : List Call) (i q : ℕ) : Type 0 where
+  pub handed : HandedIn s before i q
+  pub as-sent : AsSent s (handed .earlier) i q (handed .frame)
+
+-- The list is fair. The user's words: "if none of the rest closes a round before all frames due to it in that round from the rest, as they
+-- sent them, were handed in and taken". A frame taken in a round that its receiver never closes may be anything.
 pub record Fair (s : Setting) (calls : List Call) : Type 0 where
   -- calls are made by boards with a record
+  pub callers : (c : Call) (before : List Call) → Stands c before calls → keeper s (caller c) ≡ true
+  pub heard : (i : ℕ) (before : List Call) → Stands (closes i) before calls → Taken s (closes i) before
+      → (q : ℕ) → member q (s .faulty) ≡ false → due (s .plan) q i (state s before i .rec .round) ≡ true → HandedInAsSent s before i q
+
+-- The list is fair by the two sentences of 01, which ask more: every list that is fair so is `Fair` (`strictly-fair` in proofs/Strict).
+pub record StrictlyFair (s : Setting) (calls : List Call) : Type 0 where
   pub callers : (c : Call) (before : List Call) → Stands c before calls → keeper s (caller c) ≡ true
   -- "each handing in that is taken under the number of a board outside F carries the frame which that board sent this receiver for the
   -- run and round that it is taken for: d's frame in round 1, else what a writing of the sender in that run and round gave earlier"
   pub carried : (i q : ℕ) (f : List ℕ) (before : List Call) → Stands (receives i q f) before calls → Taken s (receives i q f) before
-      → member q (s .faulty) ≡ false
-      → (q ≡ s .plan .dealer → f ≡ dealing (s .plan) (s .word) .values) × (q ≢ s .plan .dealer → Written s before i q f)
+      → member q (s .faulty) ≡ false → AsSent s before i q f
   -- "before each closing that is taken, every frame due to that board in that run and round from a board outside F was handed in"
   pub heard : (i : ℕ) (before : List Call) → Stands (closes i) before calls → Taken s (closes i) before
       → (q : ℕ) → member q (s .faulty) ≡ false → due (s .plan) q i (state s before i .rec .round) ≡ true → HandedIn s before i q
@@ -128,6 +150,10 @@ unfoldable pub closings : World → ℕ → List Call → ℕ
 closings w i [] = 0
 closings w i (c ∷ cs) = cond (isClosing c && (eqb i (caller c) && eqb (answers c (w i) .number) 0)) 1 0 + closings (step w c) i cs
 
+-- The user's words: "past their last round": as many closings of board i were taken as the plan has rounds over all runs.
+abbrev pub PastLast : Setting → List Call → ℕ → Type 0
+PastLast s calls i = closings (begun s) i calls ≡ steps (s .plan)
+
 -- 01: "a board's root after run t is its first cell as its closing of round R in run t left it": that closing, after the calls `before`.
 pub record EndsRun (s : Setting) (t i : ℕ) (before calls : List Call) : Type 0 where
   pub stands : Stands (closes i) before calls
@@ -142,32 +168,49 @@ root s i before = getD (closing (state s before i) .board .cells) 0 blank
 unfoldable pub list : Setting → ℕ → List Call → ℕ
 list s i before = closing (state s before i) .board .rec .detected
 
--- Does board r stand on the list of every board outside F that keeps cells?
-unfoldable pub onEvery : Setting → (ℕ → List Call) → ℕ → Bool
-onEvery s before r = not (any (λ i. keeper s i && not (member r (list s i (before i)))) (s .plan .n))
+-- Does board r stand on the list of every board outside F that keeps cells? `lists` has each board's list.
+unfoldable pub onEvery : Setting → (ℕ → ℕ) → ℕ → Bool
+onEvery s lists r = not (any (λ i. keeper s i && not (member r (lists i))) (s .plan .n))
+
+-- Board i's list after the calls.
+unfoldable pub listAfter : Setting → List Call → ℕ → ℕ
+listAfter s calls i = state s calls i .rec .detected
 
 -- 01: "After every fair list, for every such F, whatever its boards send".
 pub record Agreement (s : Setting) (calls : List Call) : Type 0 where
-  -- "every list of a board outside F lies within F"
-  pub sound : (i : ℕ) → keeper s i ≡ true → within (state s calls i .rec .detected) (s .faulty) ≡ true
-  -- "a board outside F that keeps cells is decided exactly when as many of its closings were taken as the plan has rounds over all runs"
-  pub decided : (i : ℕ) → keeper s i ≡ true → (state s calls i .rec .decided ≡ true) ↔ (closings (begun s) i calls ≡ steps (s .plan))
+  -- 01: "every list of a board outside F lies within F". The user: "no board outside F lists one outside F".
+  pub sound : (i : ℕ) → keeper s i ≡ true → within (listAfter s calls i) (s .faulty) ≡ true
+  -- lists only grow along the list of calls
+  pub grows : (i : ℕ) (before now : List Call) → keeper s i ≡ true → Prefix before now → Prefix now calls
+      → within (listAfter s before i) (listAfter s now i) ≡ true
+  -- 01: "a board outside F that keeps cells is decided exactly when as many of its closings were taken as the plan has rounds over all runs"
+  pub decided : (i : ℕ) → keeper s i ≡ true → (state s calls i .rec .decided ≡ true) ↔ PastLast s calls i
   -- "and until then none of its closings is turned down"
   pub until : (i : ℕ) (before : List Call) → Stands (closes i) before calls → closings (begun s) i before < steps (s .plan) → Taken s (closes i) before
   -- and then its decision can be read
   pub readable : (i : ℕ) → keeper s i ≡ true → state s calls i .rec .decided ≡ true
       → answers (decides i) (state s calls i) ≡ taken (state s calls i .rec .decision ∷ [])
-  -- "All decisions read by boards outside F .. are equal"
+  -- The user: "the boards outside F that are past their last round have decided one value", read or not
+  pub same : (i j : ℕ) → keeper s i ≡ true → keeper s j ≡ true → PastLast s calls i → PastLast s calls j
+      → state s calls i .rec .decision ≡ state s calls j .rec .decision
+  -- "the dealer's own if the dealer is outside F"
+  pub valid : member (s .plan .dealer) (s .faulty) ≡ false → (i : ℕ) → keeper s i ≡ true → PastLast s calls i
+      → state s calls i .rec .decision ≡ s .word
+  -- 01: "All decisions read by boards outside F .. are equal"
   pub equal : (i j : ℕ) (before before′ : List Call) (v v′ : ℕ) → Stands (decides i) before calls → Stands (decides j) before′ calls
       → answers (decides i) (state s before i) ≡ taken (v ∷ []) → answers (decides j) (state s before′ j) ≡ taken (v′ ∷ []) → v ≡ v′
   -- "and d's if d is outside F"
   pub dealers : member (s .plan .dealer) (s .faulty) ≡ false
       → (i : ℕ) (before : List Call) (v : ℕ) → Stands (decides i) before calls → answers (decides i) (state s before i) ≡ taken (v ∷ []) → v ≡ s .word
-  -- "Once all boards outside F that keep cells have closed run t of a cut tree, with roots after it not all equal, at least t × (b − 3) + 1
+  -- 01: "Once all boards outside F that keep cells have closed run t of a cut tree, with roots after it not all equal, at least t × (b − 3) + 1
   -- boards stand on every one of their lists, as those closings left them."
   pub bound : isCut (s .plan) ≡ true → (t : ℕ) (before : ℕ → List Call) → ((i : ℕ) → keeper s i ≡ true → EndsRun s t i (before i) calls)
       → (i j : ℕ) → keeper s i ≡ true → keeper s j ≡ true → root s i (before i) ≢ root s j (before j)
-      → t * (s .plan .depth - 3) + 1 ≤ count (onEvery s before) (s .plan .n)
+      → t * (s .plan .depth - 3) + 1 ≤ count (onEvery s (λ i. list s i (before i))) (s .plan .n)
+  -- The user: after the whole list, "at least t × (b − 3) + 1 boards stand on every one of their lists", as they are then
+  pub bound-now : isCut (s .plan) ≡ true → (t : ℕ) (before : ℕ → List Call) → ((i : ℕ) → keeper s i ≡ true → EndsRun s t i (before i) calls)
+      → (i j : ℕ) → keeper s i ≡ true → keeper s j ≡ true → root s i (before i) ≢ root s j (before j)
+      → t * (s .plan .depth - 3) + 1 ≤ count (onEvery s (listAfter s calls)) (s .plan .n)
 
 -- Demand 3.
 abbrev pub Demand3 : Type 0

@@ -1,0 +1,107 @@
+-- The list of specs/List is fair, by computation; roots are unequal after run 1, and so two boards stand on both lists.
+-- Assumes nothing.
+use Prim.Native.Nat.{ℕ, zero, suc, _≤_}
+use mathlib.Core.Path.{_≡_, refl, sym, _∙_}
+use mathlib.Core.Logic.{_≢_}
+use mathlib.Core.Bool.{Bool, true, false, cond}
+use mathlib.Core.List.{[], _∷_}
+use native.Mathlib.Omega.{arith}
+use lib.Dec.{eqb, ltb}
+use lib.ListN.{length, replicate}
+use borrow.Author.Tests.{ltb-true}
+use Rattle.sets.specs.Search.{first, any, count}
+use Rattle.sets.specs.Sets.{member, union, insert, within, boards, setOf, size}
+use Rattle.sets.specs.Only.{only, same}
+use Rattle.sets.specs.Structure.{holder, isSome, tolerated}
+use Rattle.sets.proofs.Tests.{clash, and-l}
+use Rattle.plan.specs.Cover.{strays, covers, thirdPlace, secondPlace, firstPlace, covered}
+use Rattle.plan.specs.Schedule.{listed, largest, height, isCut, rounds, runs, firstRound, hasRound, ceilDiv}
+use Rattle.plan.specs.Calls.{covering, admitting, andThen, isDepth, settings, planning, planOn, judged}
+use Rattle.tree.specs.Labels.{occurs, mask, last, childrenFrom, children, childrenOf}
+use Rattle.tree.specs.Places.{levelSize, levelStart, cellCount, ordinal, rank, place}
+use Rattle.tree.specs.Cells.{blank, cellAt, store}
+use Rattle.protocol.specs.Nodes.{default, value, read, filter, internal, nodes, inner, sent, due, frame}
+use Rattle.protocol.specs.Detection.{vote, tabulate, resolve, resolveRoot, explained, byCell, byResolving, join, passes, maskBoard, detect1, detectAll1, detect2, detectAll2, detectLevels}
+use Rattle.protocol.specs.Rounds.{fill, counted, receive, fillMissing, copyOwn, gather, rootOnly, nextRound, convert, close}
+use Rattle.protocol.specs.Calls.{isTaken, judgeBoard, judgeCells, goodMarks, goodDecision, goodRecord, judgeRecord, judgeOpen, freshRecord, voidRecord, judgeBeginning, beginning, dealing, judgeReceiving, receiving, frameOf, judgeSending, sending, closedValues, closing, deciding}
+use Rattle.protocol.specs.Cases.{sameList}
+use Rattle.protocol.specs.Session.{begun}
+use Rattle.protocol.specs.Lists.{receives, closes, answers, after, caller, keeper, leaves, state, step, Sound, Fair, Taken, EndsRun, root, list, listAfter, onEvery, Agreement}
+use Rattle.protocol.proofs.FairCheck.{everywhere, somewhere, alike, writes, hands, truthful, lacks, fairCall, fairCheck, carriesCall, carriesCheck, checked-fair}
+use Rattle.protocol.proofs.Demand.{demand3}
+use Rattle.cut_list.specs.List.{cutSetting, cutCalls, takeCalls, cutBefore}
+
+-- What is computed from the definitions.
+pub record Computed : Type 0 where
+  -- the setting is sound, the tree is cut, and the list is fair; its last frame fails the test for the first sentence of 01
+  pub accepted : judged (cutSetting .plan) .number ≡ 0
+  pub cut : isCut (cutSetting .plan) ≡ true
+  pub tolerable : tolerated (listed (cutSetting .plan)) (cutSetting .faulty) ≡ true
+  pub fair : fairCheck cutSetting cutCalls ≡ true
+  pub carries : carriesCheck cutSetting cutCalls ≡ false
+  -- boards 0 and 2 close run 1
+  pub ends0 : EndsRun cutSetting 1 0 (cutBefore 0) cutCalls
+  pub ends2 : EndsRun cutSetting 1 2 (cutBefore 2) cutCalls
+  -- with unequal roots
+  pub root0 : root cutSetting 0 (cutBefore 0) ≡ 1
+  pub root2 : root cutSetting 2 (cutBefore 2) ≡ 0
+  -- board 0 lists 1 and 5, board 2 lists 1, 3 and 5
+  pub list0 : listAfter cutSetting cutCalls 0 ≡ 34
+  pub list2 : listAfter cutSetting cutCalls 2 ≡ 42
+
+pub computed : Computed
+unfolding first any count member union insert within boards setOf size holder isSome tolerated strays covers thirdPlace secondPlace firstPlace covered listed largest height isCut rounds runs firstRound hasRound ceilDiv covering admitting andThen isDepth settings planning planOn judged occurs mask last childrenFrom children childrenOf levelSize levelStart cellCount ordinal rank place blank cellAt store default value read filter internal nodes inner sent due frame only same vote tabulate resolve resolveRoot explained byCell byResolving join passes maskBoard detect1 detectAll1 detect2 detectAll2 detectLevels fill counted receive fillMissing copyOwn gather rootOnly nextRound convert close isTaken judgeBoard judgeCells goodMarks goodDecision goodRecord judgeRecord judgeOpen freshRecord voidRecord judgeBeginning beginning dealing judgeReceiving receiving frameOf judgeSending sending closedValues closing deciding begun answers after caller keeper leaves state step sameList everywhere somewhere alike writes hands truthful lacks fairCall fairCheck carriesCall carriesCheck root listAfter cutSetting cutCalls cutBefore takeCalls
+computed = record {
+  accepted = refl;
+  cut = refl;
+  tolerable = refl;
+  fair = refl;
+  carries = refl;
+  ends0 = record { stands = (receives 0 2 (1 ∷ []) ∷ [], refl); taken = refl; run = refl; round = refl };
+  ends2 = record { stands = (closes 0 ∷ receives 0 2 (1 ∷ []) ∷ [], refl); taken = refl; run = refl; round = refl };
+  root0 = refl;
+  root2 = refl;
+  list0 = refl;
+  list2 = refl;
+}
+
+-- Lent cells are long enough, whoever lent them.
+enough : (b : Bool) → cellCount 6 ≤ length {A = ℕ} (replicate (cond b 329 326) 7)
+unfolding cellCount levelSize levelStart
+enough true = omega arith
+enough false = omega arith
+
+pub cut-sound : Sound cutSetting
+unfolding cutSetting planOn member
+cut-sound = record {
+  accepted = computed .accepted;
+  tolerable = computed .tolerable;
+  word-below = λ e. clash refl e;
+  cells-enough = λ i _. enough (eqb i 2);
+}
+
+pub cut-fair : Fair cutSetting cutCalls
+cut-fair = checked-fair cutSetting cutCalls (computed .fair)
+
+-- All boards that keep cells close run 1.
+pub ends-run : (j : ℕ) → keeper cutSetting j ≡ true → EndsRun cutSetting 1 j (cutBefore j) cutCalls
+unfolding keeper member cutSetting planOn
+ends-run zero e = computed .ends0
+ends-run (suc zero) e = clash e refl
+ends-run (suc (suc zero)) e = computed .ends2
+ends-run (suc (suc (suc zero))) e = clash e refl
+ends-run (suc (suc (suc (suc zero)))) e = clash e refl
+ends-run (suc (suc (suc (suc (suc zero))))) e = clash e refl
+ends-run (suc (suc (suc (suc (suc (suc j)))))) e =
+    absurd (let h = ltb-true (suc (suc (suc (suc (suc (suc j)))))) 6 (and-l (ltb (suc (suc (suc (suc (suc (suc j)))))) 6) _ e) in omega arith)
+
+pub cut-agrees : Agreement cutSetting cutCalls
+cut-agrees = demand3 cutSetting cutCalls cut-sound cut-fair
+
+-- The premise of the bound is met, so at least 1 × (4 − 3) + 1 boards stand on both lists: they are boards 1 and 5.
+pub two-listed : 2 ≤ count (onEvery cutSetting (listAfter cutSetting cutCalls)) 6
+unfolding cutSetting planOn keeper member
+two-listed = cut-agrees .bound-now (computed .cut) 1 cutBefore ends-run 0 2 refl refl (λ z. apart (sym (computed .root0) ∙ z ∙ computed .root2))
+  where
+    apart : _≢_ {A = ℕ} 1 0
+    apart e = omega arith
