@@ -63,7 +63,7 @@ impl Keeper {
     /// The values of a frame as they are stored.
     fn accepted(&self, tree: &Tree, frame: &[u8], wanted: usize) -> Vec<u8> {
         let mut values = frame.to_vec();
-        if values.len() != wanted && !self.makes(Mistake::MisfitTruncated) {
+        if !self.fits(values.len(), wanted) {
             values.clear();
         }
         values.resize(wanted, 0);
@@ -72,6 +72,16 @@ impl Keeper {
             *value = 0;
         }
         values
+    }
+
+    /// Whether a frame's length is the one that is due.
+    fn fits(&self, length: usize, wanted: usize) -> bool {
+        match self.mistake {
+            Some(Mistake::OverlongCut) => length >= wanted,
+            Some(Mistake::ShortFilled) => length <= wanted,
+            Some(Mistake::LengthInAByte) => length % 256 == wanted,
+            _ => length == wanted,
+        }
     }
 
     /// The board's own children get its own cells.

@@ -30,7 +30,7 @@ pub fn bench_with(sheet: &[u8], mistake: Mistake) -> Vec<u8> {
 
 /// Reads a sheet and plays its session.
 pub fn play(sheet: &[u8], mistake: Option<Mistake>) -> Result<Outcome, Refusal> {
-    sheet::read(sheet).map(|s| session::play_sheet(&s, mistake))
+    sheet::read_with(sheet, mistake).map(|s| session::play_sheet(&s, mistake))
 }
 
 /// The printed form of an outcome or a refusal.

@@ -7,6 +7,11 @@ use crate::session::{play, Adversary, Keepers};
 use crate::sheet::{write, Sheet, Slot, LONGEST};
 use std::collections::BTreeMap;
 
+/// The seed of made sheet number `place`, of a whole that has a seed too.
+pub fn own_seed(seed: u64, place: u64) -> u64 {
+    Prng::new(seed ^ place << 32).draw()
+}
+
 /// The sheet of a seed.
 pub fn sheet(seed: u64) -> Vec<u8> {
     let mut rng = Prng::new(seed);
@@ -211,12 +216,14 @@ impl<'a> Liar<'a> {
 
     /// Makes a frame too short or too long.
     fn bend(&mut self, frame: &mut Vec<u8>) {
-        if self.rng.chance(1, 2) {
-            frame.truncate(self.rng.below(frame.len()));
-        } else {
-            for _ in 0..1 + self.rng.below(3) {
-                frame.push(self.rng.byte());
+        match self.rng.below(16) {
+            0..=7 => frame.truncate(self.rng.below(frame.len())),
+            8..=14 => {
+                for _ in 0..1 + self.rng.below(3) {
+                    frame.push(self.rng.byte());
+                }
             }
+            _ => frame.resize(frame.len() + 256, 0),
         }
     }
 }
@@ -253,7 +260,7 @@ fn bad_head(rng: &mut Prng) -> Vec<u8> {
 
 fn hurt_head(head: &mut Vec<u8>, plan: &Plan, rng: &mut Prng) {
     let last = head.len() - 1;
-    match rng.below(13) {
+    match rng.below(14) {
         0 => head[0] = rng.pick(&[0, 8, 9, 255]),
         1 if last > 1 => head[1] = rng.pick(&[0, 1]),
         2 if last > 2 => head[2] = plan.n + rng.below(3) as u8,
@@ -262,19 +269,28 @@ fn hurt_head(head: &mut Vec<u8>, plan: &Plan, rng: &mut Prng) {
         5 => swap_sets(head, &[]),
         6 => swap_sets(head, &vec![0; 33 + rng.below(3)]),
         7 => swap_sets(head, &vec![rng.byte(); 1 + rng.below(3)]),
-        8 => swap_sets(
-            head,
-            &[
-                rng.byte() & all(plan.n),
-                rng.byte() & all(plan.n),
-                all(plan.n) >> 1,
-            ],
-        ),
+        8 => swap_sets(head, &covering(plan.n, rng)),
         9 => head[last] = rng.byte() & all(plan.n),
         10 => head[last] = rng.byte(),
         11 => head.truncate(rng.below(head.len() + 1).max(1)),
+        12 if last > 4 => {
+            head[4] = head[1];
+            head[last] = rng.byte();
+        }
         _ => head.push(rng.byte()),
     }
+}
+
+/// One to three sets that cover all boards, at times with others.
+fn covering(n: u8, rng: &mut Prng) -> Vec<Set> {
+    let count = 1 + rng.below(3);
+    let mut sets = vec![0; count];
+    (0..n).for_each(|board| sets[rng.below(count)] |= set_of([board]));
+    for _ in 0..rng.pick(&[0, 0, 1, 3]) {
+        let place = rng.below(sets.len() + 1);
+        sets.insert(place, rng.byte() & rng.byte() & all(n));
+    }
+    sets
 }
 
 /// Gives a head other sets.

@@ -20,8 +20,12 @@ pub enum Mistake {
     NoMaskSameRound,
     /// A frame from a listed board is stored as it came.
     ListedFrameKept,
-    /// A frame of another length is cut, or filled up with 0.
-    MisfitTruncated,
+    /// A frame that is too long is cut.
+    OverlongCut,
+    /// A frame that is too short is filled up with 0.
+    ShortFilled,
+    /// The length of a frame is counted in one byte: 256 values more are not noticed.
+    LengthInAByte,
     /// A value of m or more is stored as it came, and counts as 0 when read.
     RawStored,
     /// A value of m or more is stored and read as it came.
@@ -42,10 +46,20 @@ pub enum Mistake {
     FirstValueWins,
     /// The last run of a cut tree converts without rule C.
     CutLastRunWithoutC,
+    /// Number 5 tries two sets, equal or not, and no third.
+    CoverByTwo,
+    /// Number 5 tries three different places only.
+    CoverByDifferent,
+    /// Number 5 tries the first set with itself only.
+    CoverByFirst,
+    /// Number 5 is met if all sets together cover.
+    CoverByAll,
+    /// Number 23 is judged before 18.
+    FaultyBeforeValue,
 }
 
 impl Mistake {
-    pub const ALL: [Mistake; 20] = [
+    pub const ALL: [Mistake; 27] = [
         Mistake::CachedValue,
         Mistake::CachedVerdict,
         Mistake::GWithoutList,
@@ -55,7 +69,9 @@ impl Mistake {
         Mistake::LastRunWithoutC,
         Mistake::NoMaskSameRound,
         Mistake::ListedFrameKept,
-        Mistake::MisfitTruncated,
+        Mistake::OverlongCut,
+        Mistake::ShortFilled,
+        Mistake::LengthInAByte,
         Mistake::RawStored,
         Mistake::RawRead,
         Mistake::GReversed,
@@ -66,10 +82,22 @@ impl Mistake {
         Mistake::NoneIsZero,
         Mistake::FirstValueWins,
         Mistake::CutLastRunWithoutC,
+        Mistake::CoverByTwo,
+        Mistake::CoverByDifferent,
+        Mistake::CoverByFirst,
+        Mistake::CoverByAll,
+        Mistake::FaultyBeforeValue,
     ];
 
     /// Mistakes that no sheet can show: the cells differ, what is printed does not.
     pub fn hidden(self) -> bool {
         self == Mistake::RawStored
+    }
+
+    /// The mistakes that a sheet tells from the right engine, accepted or refused.
+    pub fn told_by(sheet: &[u8]) -> Vec<Mistake> {
+        let right = crate::bench(sheet);
+        let tells = |mistake: &Mistake| crate::bench_with(sheet, *mistake) != right;
+        Mistake::ALL.into_iter().filter(tells).collect()
     }
 }

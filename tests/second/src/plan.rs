@@ -1,5 +1,7 @@
 //! Structures, plans and the tree of labels.
 
+use crate::mistake::Mistake;
+
 /// A node's boards from the dealer on. The empty label stands above the root.
 pub type Label = Vec<u8>;
 
@@ -37,7 +39,11 @@ pub struct Plan {
 impl Plan {
     /// The number under which a plan is turned down, if it is.
     pub fn refusal(&self) -> Option<u8> {
-        admit(self.n, &self.sets).err().or({
+        self.refusal_with(None)
+    }
+
+    pub fn refusal_with(&self, mistake: Option<Mistake>) -> Option<u8> {
+        admit_with(self.n, &self.sets, mistake).err().or({
             if self.dealer >= self.n {
                 Some(6)
             } else if self.span < 2 {
@@ -93,6 +99,10 @@ impl Plan {
 
 /// Judges a list of sets; 5 comes without its places, which `first_cover` gives.
 pub fn admit(n: u8, sets: &[Set]) -> Result<(), u8> {
+    admit_with(n, sets, None)
+}
+
+fn admit_with(n: u8, sets: &[Set], mistake: Option<Mistake>) -> Result<(), u8> {
     if n == 0 || n > 7 {
         Err(1)
     } else if sets.is_empty() {
@@ -101,19 +111,42 @@ pub fn admit(n: u8, sets: &[Set]) -> Result<(), u8> {
         Err(3)
     } else if sets.iter().any(|s| s & !all(n) != 0) {
         Err(4)
-    } else if first_cover(n, sets).is_some() {
+    } else if covers(n, sets, mistake) {
         Err(5)
     } else {
         Ok(())
     }
 }
 
+/// Whether number 5 is met, judged with the mistake if it is one about this.
+fn covers(n: u8, sets: &[Set], mistake: Option<Mistake>) -> bool {
+    let cover = match mistake {
+        Some(Mistake::CoverByTwo) => cover_among(n, sets, |_, j, k| j == k),
+        Some(Mistake::CoverByDifferent) => cover_among(n, sets, |i, j, k| i < j && j < k),
+        Some(Mistake::CoverByFirst) => cover_among(n, sets, |_, _, k| k == 0),
+        Some(Mistake::CoverByAll) => {
+            return sets.iter().fold(0, |union, s| union | s) == all(n);
+        }
+        _ => first_cover(n, sets),
+    };
+    cover.is_some()
+}
+
 /// The places of the first three sets that cover all boards.
 pub fn first_cover(n: u8, sets: &[Set]) -> Option<(usize, usize, usize)> {
+    cover_among(n, sets, |_, _, _| true)
+}
+
+/// The same among the places that are tried.
+fn cover_among(
+    n: u8,
+    sets: &[Set],
+    tried: impl Fn(usize, usize, usize) -> bool,
+) -> Option<(usize, usize, usize)> {
     for i in 0..sets.len() {
         for j in i..sets.len() {
             for k in j..sets.len() {
-                if sets[i] | sets[j] | sets[k] == all(n) {
+                if tried(i, j, k) && sets[i] | sets[j] | sets[k] == all(n) {
                     return Some((i, j, k));
                 }
             }

@@ -1,5 +1,6 @@
 //! Reading a sheet, line by line, with its refusals.
 
+use crate::mistake::Mistake;
 use crate::plan::{all, has, Plan, Set, Tree};
 use std::collections::BTreeMap;
 
@@ -35,6 +36,10 @@ impl Refusal {
 }
 
 pub fn read(text: &[u8]) -> Result<Sheet, Refusal> {
+    read_with(text, None)
+}
+
+pub fn read_with(text: &[u8], mistake: Option<Mistake>) -> Result<Sheet, Refusal> {
     if text.len() > LONGEST {
         return Err(Refusal {
             number: 20,
@@ -49,7 +54,9 @@ pub fn read(text: &[u8]) -> Result<Sheet, Refusal> {
         }
     };
     let first = lines.next().map_or(Err(22), |(_, line)| digits(line));
-    let mut sheet = first.and_then(|bytes| head(&bytes)).map_err(at(0))?;
+    let mut sheet = first
+        .and_then(|bytes| head(&bytes, mistake))
+        .map_err(at(0))?;
     let tree = Tree::new(&sheet.plan);
     for (place, line) in lines {
         let bytes = digits(line).map_err(at(place))?;
@@ -84,7 +91,7 @@ fn digit(c: u8) -> Result<u8, u8> {
 }
 
 /// The head: n, m, d, b, the dealer's value, s, the sets, F.
-fn head(bytes: &[u8]) -> Result<Sheet, u8> {
+fn head(bytes: &[u8], mistake: Option<Mistake>) -> Result<Sheet, u8> {
     if bytes.len() < 7 || bytes.len() != 7 + bytes[5] as usize {
         return Err(22);
     }
@@ -98,13 +105,17 @@ fn head(bytes: &[u8]) -> Result<Sheet, u8> {
         span,
         depth,
     };
-    if let Some(number) = plan.refusal() {
+    if let Some(number) = plan.refusal_with(mistake) {
         return Err(number);
+    }
+    let untolerated = faulty & !all(n) != 0 || !plan.tolerated(faulty);
+    if untolerated && mistake == Some(Mistake::FaultyBeforeValue) {
+        return Err(23);
     }
     if value >= span {
         return Err(18);
     }
-    if faulty & !all(n) != 0 || !plan.tolerated(faulty) {
+    if untolerated {
         return Err(23);
     }
     Ok(Sheet {

@@ -5,29 +5,38 @@ use second::tally::{Tally, NUMBERS, SPLITS};
 use second::{bench_with, corpus, make, play, print, sheet, Mistake};
 
 #[test]
-fn corpus_tells_every_mistake() {
-    for mistake in Mistake::ALL {
-        let shown = corpus::load()
-            .iter()
-            .any(|(_, s)| bench_with(s, mistake) != second::bench(s));
-        assert_eq!(shown, !mistake.hidden(), "{mistake:?}");
-    }
-}
-
-#[test]
 fn corpus_names_hold() {
     for (name, text) in corpus::load() {
         let result = play(&text, None);
-        if let Some(number) = name.strip_prefix("refusal-") {
-            assert_eq!(
+        let mut words = name.split('-');
+        match words.next().unwrap() {
+            "refusal" => assert_eq!(
                 result.err().map(|r| r.number),
-                number.parse().ok(),
+                words.next().and_then(|n| n.parse().ok()),
                 "{name}"
-            );
-        } else {
-            assert!(result.is_ok(), "{name}");
+            ),
+            _ => assert!(result.is_ok(), "{name}"),
         }
+        let told: Vec<String> = Mistake::told_by(&text)
+            .iter()
+            .map(|m| format!("mistake-{m:?}"))
+            .collect();
+        assert!(
+            !name.starts_with("mistake") || told.contains(&name),
+            "{name}"
+        );
     }
+}
+
+/// Number 5 is met by one set for every n, by two and by three.
+#[test]
+fn corpus_covers_by_one_two_and_three() {
+    let count = |kind: &str| {
+        let names = corpus::load().into_iter().map(|(name, _)| name);
+        names.filter(|name| name.starts_with(kind)).count()
+    };
+    assert_eq!(count("refusal-05-one-n"), 7);
+    assert!(count("refusal-05-two") > 0 && count("refusal-05-three") > 0);
 }
 
 #[test]

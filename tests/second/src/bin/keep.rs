@@ -22,7 +22,7 @@ fn main() {
         return eprintln!("keep COUNT SEED");
     };
     let mut found = Found::new();
-    let made = (0..count).map(|i| make::sheet(second::prng::Prng::new(seed ^ i << 32).draw()));
+    let made = (0..count).map(|i| make::sheet(make::own_seed(seed, i)));
     for text in made.chain(corpus::load().into_iter().map(|(_, text)| text)) {
         for name in names(&text) {
             let candidates = found.entry(name).or_default();
