@@ -53,8 +53,8 @@ wrong=0
 for sheet in "$folder"/*.sheet; do
     name=$(basename "$sheet" .sheet)
     played=$((played + 1))
-    tests/second/target/release/play <"$sheet" >"$folder/expected"
-    valgrind -q --error-exitcode=9 target/bin/bench <"$sheet" >"$folder/printed"
+    timeout 60 tests/second/target/release/play <"$sheet" >"$folder/expected"
+    timeout 120 valgrind -q --error-exitcode=9 target/bin/bench <"$sheet" >"$folder/printed"
     status=$?
     if [ "$status" -ne 0 ] || ! cmp "$folder/printed" "$folder/expected"; then
         echo "damaged: $name is wrong (status $status); printed:"

@@ -28,6 +28,7 @@ impl Adversary for &BTreeMap<Slot, Vec<u8>> {
 
 pub struct Outcome {
     pub plan: Plan,
+    pub faulty: Set,
     /// Board, decision and list of each healthy board.
     pub decided: Vec<(u8, u8, Set)>,
     /// The roots of all healthy keepers after each run.
@@ -46,6 +47,16 @@ impl Outcome {
     pub fn unequal_after(&self, run: usize) -> bool {
         let roots = self.roots.get(run - 1);
         roots.is_some_and(|r| r.windows(2).any(|pair| pair[0] != pair[1]))
+    }
+
+    /// Whether roots can be unequal after a run: the tree is cut, the dealer is faulty, t (b - 3) + 3 boards are,
+    /// and two boards that keep cells are not.
+    pub fn can_be_unequal_after(&self, run: usize) -> bool {
+        let keepers = self.decided.iter().filter(|(b, ..)| *b != self.plan.dealer);
+        self.plan.cut()
+            && has(self.faulty, self.plan.dealer)
+            && self.faulty.count_ones() as usize >= run * (self.plan.depth as usize - 3) + 3
+            && keepers.count() >= 2
     }
 }
 
@@ -94,6 +105,7 @@ pub fn play(
     };
     Outcome {
         plan: plan.clone(),
+        faulty,
         decided: healthy.iter().map(decide).collect(),
         roots,
         lists,

@@ -14,6 +14,8 @@ pub const SPLITS: [(u8, u8, usize); 4] = [(4, 6, 1), (4, 7, 1), (5, 7, 1), (4, 7
 pub struct Tally {
     pub sheets: usize,
     pub accepted: usize,
+    /// Unequal roots where none are possible.
+    pub impossible: usize,
     refused: BTreeMap<u8, usize>,
     split: BTreeMap<(u8, u8, usize), usize>,
 }
@@ -32,12 +34,16 @@ impl Tally {
         for run in (1..=outcome.roots.len()).filter(|r| outcome.unequal_after(*r)) {
             let key = (outcome.plan.depth, outcome.plan.n, run);
             *self.split.entry(key).or_default() += 1;
+            if !outcome.can_be_unequal_after(run) {
+                self.impossible += 1;
+            }
         }
     }
 
     pub fn add(&mut self, other: Tally) {
         self.sheets += other.sheets;
         self.accepted += other.accepted;
+        self.impossible += other.impossible;
         other
             .refused
             .into_iter()
@@ -48,10 +54,11 @@ impl Tally {
             .for_each(|(k, c)| *self.split.entry(k).or_default() += c);
     }
 
-    /// Whether every number and every kind of unequal roots was met.
+    /// Whether every number and every kind of unequal roots was met, and no impossible one.
     pub fn full(&self) -> bool {
         NUMBERS.iter().all(|n| self.refused.contains_key(n))
             && SPLITS.iter().all(|s| self.split.contains_key(s))
+            && self.impossible == 0
     }
 
     pub fn print(&self) {
@@ -67,8 +74,6 @@ impl Tally {
             let count = self.split.get(&key).copied().unwrap_or(0);
             println!("unequal roots, b = {b}, n = {n}, after run {run}: {count}");
         }
-        for key in self.split.keys().filter(|k| !SPLITS.contains(k)) {
-            println!("unequal roots where none are possible: {key:?}");
-        }
+        println!("unequal roots where none are possible: {}", self.impossible);
     }
 }

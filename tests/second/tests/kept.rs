@@ -1,6 +1,6 @@
 //! The corpus shows what it is kept for, and made sheets keep the promises.
 
-use second::plan::has;
+use second::plan::{has, set_of};
 use second::tally::{Tally, NUMBERS, SPLITS};
 use second::{bench_with, corpus, make, play, print, sheet, Mistake};
 
@@ -66,6 +66,35 @@ fn made_sheets_agree_and_list_only_faulty_boards() {
         let hidden = Mistake::ALL.into_iter().filter(|m| m.hidden());
         hidden.for_each(|m| assert_eq!(bench_with(&text, m), print(&play(&text, None))));
     }
+}
+
+/// Roots that differ in a full tree, or with too few faulty boards, are counted as impossible.
+#[test]
+fn impossible_roots_are_counted() {
+    let kept = corpus::load();
+    let (_, text) = kept
+        .iter()
+        .find(|(name, _)| name == "unequal-b4-n7-run2")
+        .unwrap();
+    let unequal = || play(text, None).unwrap();
+    let impossible = |outcome| {
+        let mut tally = Tally::default();
+        tally.count(&Ok(outcome));
+        tally.impossible
+    };
+    assert_eq!(impossible(unequal()), 0);
+    let mut full = unequal();
+    full.plan.depth = 0;
+    assert_eq!(impossible(full), 2);
+    let mut few = unequal();
+    few.faulty = set_of([few.plan.dealer]);
+    assert_eq!(impossible(few), 2);
+    let mut healthy_dealer = unequal();
+    healthy_dealer.faulty &= !set_of([healthy_dealer.plan.dealer]);
+    assert_eq!(impossible(healthy_dealer), 2);
+    let mut later = unequal();
+    later.roots.push(later.roots[1].clone());
+    assert_eq!(impossible(later), 1);
 }
 
 /// Unequal roots after run t mean t (b - 3) + 1 boards on every list.
