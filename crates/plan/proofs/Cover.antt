@@ -2,7 +2,7 @@
 -- Assumes nothing.
 use Prim.Native.Nat.{ℕ, _-_, _≤_, _<_}
 use mathlib.Core.Path.{_≡_, sym, _∙_, ap, subst}
-use mathlib.Core.Logic.{_≢_, _⊎_, inl, inr}
+use mathlib.Core.Logic.{_≢_, _⊎_, inl, inr, ⊎-elim}
 use mathlib.Core.Bool.{Bool, true, _||_, or-assoc}
 use mathlib.Core.List.{List}
 use native.Mathlib.Omega.{arith}
@@ -13,7 +13,7 @@ use borrow.Author.Tests.{eqb-true, eqb-false, lt-ltb, ltb-true}
 use Rattle.sets.specs.Sets.{member, union, boards}
 use Rattle.plan.specs.Cover.{covers, thirdPlace, secondPlace, firstPlace}
 use Rattle.plan.specs.Claims.{Cover, NoLater, FirstTriple}
-use Rattle.sets.proofs.Tests.{cases}
+use Rattle.sets.proofs.Tests.{cases, or-true, or-left, or-right}
 use Rattle.sets.proofs.Search.{first-true, first-least, first-ge}
 use Rattle.sets.proofs.Member.{within-member, member-within, member-union, member-boards}
 
@@ -39,6 +39,21 @@ module _ (n : ℕ) (sets : List ℕ) where
   cover-covers i j k h =
       member-within n (boards n) (union (union (getD sets i 0) (getD sets j 0)) (getD sets k 0)) (ones-lt n)
       (λ q l _. in-union q (getD sets i 0) (getD sets j 0) (getD sets k 0) ∙ h q l)
+
+  -- The three places may stand in any order.
+  pub swap-left : (i j k : ℕ) → CoverAt i j k → CoverAt j i k
+  swap-left i j k h q l =
+      let a = member q (getD sets i 0) in
+      let b = member q (getD sets j 0) in
+      let c = member q (getD sets k 0) in
+      ⊎-elim (λ x. or-right b (a || c) (or-left a c x)) (λ y. ⊎-elim (λ x. or-left b (a || c) x) (λ x. or-right b (a || c) (or-right a c x)) (or-true b c y)) (or-true a (b || c) (h q l))
+
+  pub swap-right : (i j k : ℕ) → CoverAt i j k → CoverAt i k j
+  swap-right i j k h q l =
+      let a = member q (getD sets i 0) in
+      let b = member q (getD sets j 0) in
+      let c = member q (getD sets k 0) in
+      ⊎-elim (λ x. or-left a (c || b) x) (λ y. or-right a (c || b) (⊎-elim (λ x. or-right c b x) (λ x. or-left c b x) (or-true b c y))) (or-true a (b || c) (h q l))
 
   -- A covering triple bounds each search.
   pub third-le : (i j k : ℕ) → j ≤ k → CoverAt i j k → thirdPlace n sets i j ≤ k

@@ -15,7 +15,7 @@ use Rattle.sets.specs.Sets.{member, within, boards, size}
 use Rattle.sets.specs.Structure.{tolerated}
 use Rattle.plan.specs.Cover.{strays, covered, firstPlace}
 use Rattle.plan.specs.Schedule.{listed, largest, height}
-use Rattle.plan.specs.Calls.{judged}
+use Rattle.plan.specs.Calls.{judged, settingsOf}
 use Rattle.sets.proofs.Tests.{cases, clash, is-false, not-t, not-f, or-left}
 use Rattle.sets.proofs.Search.{any-true, any-false}
 use Rattle.sets.proofs.Count.{count-mono, count-more, count-all}
@@ -117,7 +117,7 @@ set-small n count sets a i l =
 pub height-le : (p : Plan) → judged p .number ≡ 0 → height p ≤ p .n
 unfolding judged height
 height-le p e =
-    let a = accepted (p .n) (p .count) (listed p) (p .dealer) (p .span) (p .depth) e .admission in
+    let a = accepted (p .n) (p .count) (listed p) (settingsOf p) e .admission in
     let small : largest (listed p) (p .dealer) ≤ p .n - 1 =
     largest-le (listed p) (p .dealer) (p .n - 1) (λ i l. let h = set-small (p .n) (p .count) (listed p) a i l in omega arith) in
     omega (arith, a .some-board)

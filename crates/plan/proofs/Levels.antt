@@ -8,7 +8,7 @@ use native.Mathlib.Omega.{arith}
 use mathlib.Core.Logic.{_≢_}
 use lib.Dec.{eqb, leb, ltb}
 use borrow.Author.Tests.{eqb-false, ltb-true, leb-true, leb-false}
-use lib.ListN.{length, getD, take, drop, drop-of-length-le}
+use lib.ListN.{length, getD, take, drop, length-take, drop-of-length-le}
 use lib.Seq.{drop-cons, take-all}
 use mathlib.Core.Bool.{true, false, not, cond}
 use mathlib.Core.List.{List}
@@ -89,3 +89,7 @@ slots-listed p h =
     let z : min (p .count) 32 ≡ p .count = omega arith in ap (λ k. take k (p .sets)) z)
     (λ e. let l = leb-false (p .count) 32 e in
     take-all (min (p .count) 32) (p .sets) (omega arith) ∙ sym (take-all (p .count) (p .sets) (omega arith)))
+
+pub listed-few : (p : Plan) → length (p .sets) ≡ 32 → length (listed p) ≤ 32
+unfolding listed
+listed-few p h = omega (arith, length-take (p .count) (p .sets))

@@ -1,4 +1,5 @@
 pub mod Cover
+pub mod Pairs
 pub mod ThreeCover
 pub mod Outcomes
 pub mod Levels
@@ -7,3 +8,5 @@ pub mod Height
 pub mod Steps
 pub mod Injective
 pub mod Together
+pub mod Tabled
+pub mod Own

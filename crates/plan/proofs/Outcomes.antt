@@ -13,7 +13,8 @@ use Rattle.plan.specs.declared.refusal.Refusal.{Refusal}
 use Rattle.plan.specs.declared.refusal.Refusal.the-variants.{Boards, NoSets, TooManySets, UnknownBoard, Covered, Dealer, Span, Depth, BoardNumber, BoardIsDealer, ShortCells, BadRecord, Decided, NotDue, AlreadyTaken, NothingToSend, ShortOutput, BadValue, Undecided, LongSheet, BadText, BadHead, BadFaulty, BadFrame}
 use Rattle.plan.specs.Cover.{strays, covered, places}
 use Rattle.plan.specs.Outcome.{Outcome, refused, refusedAt, refusal}
-use Rattle.plan.specs.Calls.{covering, admitting, andThen, isDepth, settings, planning, planned, planOn, voidPlan, judged}
+use Rattle.plan.specs.declared.plan.Settings.{Settings}
+use Rattle.plan.specs.Calls.{covering, admitting, andThen, isDepth, judgeSettings, planning, planned, planOn, voidPlan, judged}
 use Rattle.plan.specs.Schedule.{listed}
 use lib.Seq.{take-append-seam}
 use Rattle.sets.proofs.Tests.{cases, or-l, or-r, not-f}
@@ -91,47 +92,47 @@ admitted n count sets e =
     }
 
 -- What an accepted plan meets.
-pub record Accepted (n count : ℕ) (sets : List ℕ) (dealer span depth : ℕ) : Type 0 where
+pub record Accepted (n count : ℕ) (sets : List ℕ) (s : Settings) : Type 0 where
   pub admission : Admitted n count sets
-  pub dealer-below : dealer < n
-  pub two-values : 2 ≤ span
-  pub depth-good : isDepth depth ≡ true
+  pub dealer-below : s .dealer < n
+  pub two-values : 2 ≤ s .span
+  pub depth-good : isDepth (s .depth) ≡ true
 
-pub accepted : (n count : ℕ) (sets : List ℕ) (dealer span depth : ℕ) → planning n count sets dealer span depth .number ≡ 0
-    → Accepted n count sets dealer span depth
-unfolding planning settings
-accepted n count sets dealer span depth e =
-    let (first, second) = both-taken (admitting n count sets) (settings n dealer span depth) e in
-    let (p6, e6) = passed (leb n dealer) (refused 6) _ (omega arith) second in
-    let (p7, e7) = passed (ltb span 2) (refused 7) _ (omega arith) e6 in
-    let (p8, e8) = passed (not (isDepth depth)) (refused 8) _ (omega arith) e7 in
+pub accepted : (n count : ℕ) (sets : List ℕ) (s : Settings) → planning n count sets s .number ≡ 0
+    → Accepted n count sets s
+unfolding planning judgeSettings
+accepted n count sets s e =
+    let (first, second) = both-taken (admitting n count sets) (judgeSettings n s) e in
+    let (p6, e6) = passed (leb n (s .dealer)) (refused 6) _ (omega arith) second in
+    let (p7, e7) = passed (ltb (s .span) 2) (refused 7) _ (omega arith) e6 in
+    let (p8, e8) = passed (not (isDepth (s .depth))) (refused 8) _ (omega arith) e7 in
     record {
       admission = admitted n count sets first;
-      dealer-below = leb-false n dealer p6;
-      two-values = ltb-false span 2 p7;
-      depth-good = not-f (isDepth depth) p8;
+      dealer-below = leb-false n (s .dealer) p6;
+      two-values = ltb-false (s .span) 2 p7;
+      depth-good = not-f (isDepth (s .depth)) p8;
     }
 
 -- The plan that planning gives, by its number.
-module _ (n : ℕ) (sets : List ℕ) (dealer span depth : ℕ) where
-  pub planned-taken : planning n (length sets) sets dealer span depth .number ≡ 0
-      → planned n sets dealer span depth ≡ planOn n sets dealer span depth
+module _ (n : ℕ) (sets : List ℕ) (s : Settings) where
+  pub planned-taken : planning n (length sets) sets s .number ≡ 0
+      → planned n sets s ≡ planOn n sets s
   unfolding planned
   planned-taken e =
-      ap (λ b. cond b (planOn n sets dealer span depth) voidPlan) (eq-eqb (planning n (length sets) sets dealer span depth .number) 0 e)
+      ap (λ b. cond b (planOn n sets s) voidPlan) (eq-eqb (planning n (length sets) sets s .number) 0 e)
 
-  pub planned-refused : planning n (length sets) sets dealer span depth .number ≢ 0 → planned n sets dealer span depth ≡ voidPlan
+  pub planned-refused : planning n (length sets) sets s .number ≢ 0 → planned n sets s ≡ voidPlan
   unfolding planned
   planned-refused e =
-      ap (λ b. cond b (planOn n sets dealer span depth) voidPlan) (ne-eqb (planning n (length sets) sets dealer span depth .number) 0 e)
+      ap (λ b. cond b (planOn n sets s) voidPlan) (ne-eqb (planning n (length sets) sets s .number) 0 e)
 
   -- What planning accepted is judged so again.
-  pub planned-judged : planning n (length sets) sets dealer span depth .number ≡ 0
-      → judged (planned n sets dealer span depth) ≡ planning n (length sets) sets dealer span depth
+  pub planned-judged : planning n (length sets) sets s .number ≡ 0
+      → judged (planned n sets s) ≡ planning n (length sets) sets s
   unfolding judged listed planOn
   planned-judged e =
       ap judged (planned-taken e)
-      ∙ ap (λ x. planning n (length sets) x dealer span depth) (take-append-seam sets (replicate (32 - length sets) 0))
+      ∙ ap (λ x. planning n (length sets) x s) (take-append-seam sets (replicate (32 - length sets) 0))
 
 -- No call accepts the plan beside a refusal.
 pub void-judged : judged voidPlan ≡ refused 1

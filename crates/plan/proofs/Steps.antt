@@ -12,7 +12,7 @@ use Rattle.plan.specs.declared.plan.Plan.{Plan}
 use Rattle.plan.specs.declared.schedule.Run.{Run}
 use Rattle.plan.specs.declared.schedule.Round.{Round}
 use Rattle.plan.specs.Schedule.{listed, isCut, rounds, runs, firstRound, hasRound, steps, step, stepRun, stepRound, ceilDiv}
-use Rattle.plan.specs.Calls.{judged, isDepth}
+use Rattle.plan.specs.Calls.{judged, isDepth, settingsOf}
 use Rattle.sets.proofs.Tests.{cases, and-l, and-r, and-true, or-true}
 use Rattle.plan.proofs.Levels.{rounds-pos, runs-pos, rounds-cut, runs-cut, runs-full, cut-depth, ceil-enough}
 use Rattle.plan.proofs.Outcomes.{accepted}
@@ -222,7 +222,7 @@ cut-four p e cut =
     (λ z. let zero : p .depth ≡ 0 = eqb-true (p .depth) 0 z in absurd (omega (arith, cut-depth p cut)))
     (λ z. leb-true 4 (p .depth) (and-l (leb 4 (p .depth)) (leb (p .depth) 7) z))
     (or-true (eqb (p .depth) 0) (leb 4 (p .depth) && leb (p .depth) 7)
-    (accepted (p .n) (p .count) (listed p) (p .dealer) (p .span) (p .depth) e .depth-good))
+    (accepted (p .n) (p .count) (listed p) (settingsOf p) e .depth-good))
 
 -- A cut tree has runs enough: n ≤ (T - 1)(b - 3) + 3.
 pub runs-enough : (p : Plan) → judged p .number ≡ 0 → isCut p ≡ true → p .n ≤ (runs p .0 - 1) * (p .depth - 3) + 3

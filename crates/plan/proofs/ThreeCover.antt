@@ -21,7 +21,7 @@ use Rattle.sets.proofs.Tests.{cases, clash, is-false, or-true, or-left, or-righ
 use Rattle.sets.proofs.Search.{any-true, any-false}
 use Rattle.sets.proofs.Member.{within-member, member-within, member-boards, member-empty, within-refl}
 use Rattle.sets.proofs.Tolerated.{listed-tolerated, tolerated-listed}
-use Rattle.plan.proofs.Cover.{CoverAt, found-of, first-triple}
+use Rattle.plan.proofs.Cover.{CoverAt, swap-left, swap-right, found-of, first-triple}
 
 below-pow : (n : ℕ) → n < 2 ^ n
 below-pow zero = omega arith
@@ -55,20 +55,6 @@ covered-five n sets t = rw t
 
 -- Three sets in any order, put in the order of their places.
 module _ (n : ℕ) (sets : List ℕ) where
-  swap-left : (i j k : ℕ) → CoverAt n sets i j k → CoverAt n sets j i k
-  swap-left i j k h q l =
-      let a = member q (getD sets i 0) in
-      let b = member q (getD sets j 0) in
-      let c = member q (getD sets k 0) in
-      ⊎-elim (λ x. or-right b (a || c) (or-left a c x)) (λ y. ⊎-elim (λ x. or-left b (a || c) x) (λ x. or-right b (a || c) (or-right a c x)) (or-true b c y)) (or-true a (b || c) (h q l))
-
-  swap-right : (i j k : ℕ) → CoverAt n sets i j k → CoverAt n sets i k j
-  swap-right i j k h q l =
-      let a = member q (getD sets i 0) in
-      let b = member q (getD sets j 0) in
-      let c = member q (getD sets k 0) in
-      ⊎-elim (λ x. or-left a (c || b) x) (λ y. or-right a (c || b) (⊎-elim (λ x. or-right c b x) (λ x. or-left c b x) (or-true b c y))) (or-true a (b || c) (h q l))
-
   abbrev Found : Type 0
   Found = firstPlace n sets < length sets
 
@@ -82,16 +68,16 @@ module _ (n : ℕ) (sets : List ℕ) where
       (λ e. ordered-found i j k a (leb-true j k e) lk h)
       (λ e. let kj : k < j = leb-false j k e in
       cases (leb i k)
-      (λ f. ordered-found i k j (leb-true i k f) (omega arith) lj (swap-right i j k h))
+      (λ f. ordered-found i k j (leb-true i k f) (omega arith) lj (swap-right n sets i j k h))
       (λ f. let ki : k < i = leb-false i k f in
-      ordered-found k i j (omega arith) a lj (swap-left i k j (swap-right i j k h))))
+      ordered-found k i j (omega arith) a lj (swap-left n sets i k j (swap-right n sets i j k h))))
 
   listed-found : ListedCover n sets → Found
   listed-found c =
       let (i, j, k, li, lj, lk, h) = c in
       cases (leb i j)
       (λ e. pair-found i j k (leb-true i j e) lj lk h)
-      (λ e. let ji : j < i = leb-false i j e in pair-found j i k (omega arith) li lk (swap-left i j k h))
+      (λ e. let ji : j < i = leb-false i j e in pair-found j i k (omega arith) li lk (swap-left n sets i j k h))
 
   found-listed : Found → ListedCover n sets
   found-listed f =

@@ -13,6 +13,10 @@ use Rattle.plan.specs.declared.schedule.Round.{Round}
 unfoldable pub listed : Plan → List ℕ
 listed p = take (p .count) (p .sets)
 
+-- The depth b of the tree.
+abbrev pub depthOf : Plan → ℕ
+depthOf p = p .depth
+
 -- The size of the largest listed set that holds d; 0 if there is none.
 unfoldable pub largest : List ℕ → ℕ → ℕ
 largest [] d = 0
@@ -24,11 +28,11 @@ height p = largest (listed p) (p .dealer) + 1
 
 -- 01: "If b is not 0 and H > b, the tree is cut".
 unfoldable pub isCut : Plan → Bool
-isCut p = not (eqb (p .depth) 0) && ltb (p .depth) (height p)
+isCut p = not (eqb (depthOf p) 0) && ltb (depthOf p) (height p)
 
 -- 01: "R = b; else R = H". The last round of every run.
 unfoldable pub rounds : Plan → Round
-rounds p = record { 0 = cond (isCut p) (p .depth) (height p) }
+rounds p = record { 0 = cond (isCut p) (depthOf p) (height p) }
 
 -- a / b, rounded up.
 unfoldable pub ceilDiv : ℕ → ℕ → ℕ
@@ -36,7 +40,7 @@ ceilDiv a b = (a + (b - 1)) / b
 
 -- 01: "A cut tree is played for ⌈(n − 3) / (b − 3)⌉ + 1 runs, any other for 1." The last run.
 unfoldable pub runs : Plan → Run
-runs p = record { 0 = cond (isCut p) (ceilDiv (p .n - 3) (p .depth - 3) + 1) 1 }
+runs p = record { 0 = cond (isCut p) (ceilDiv (p .n - 3) (depthOf p - 3) + 1) 1 }
 
 -- 01: "Run 1 has rounds 1 to R, later runs 2 to R."
 unfoldable pub firstRound : Run → Round

@@ -4,13 +4,15 @@ use crate::refusal::Refusal;
 use crate::refusal::Verdict;
 use sets::boards::all_boards;
 use sets::boards::subset;
+use sets::holders::holders_of;
 ghost use mathlib.Core.Path.{_≡_};
 ghost use mathlib.Core.Bool.{not};
-ghost use Prim.Native.Nat.{_≤_, _<_};
+ghost use Prim.Native.Nat.{min};
 ghost use lib.ListN.{length, getD};
 ghost use Rattle.sets.specs.Search.{any};
 ghost use Rattle.sets.specs.Sets.{within};
-ghost use Rattle.plan.specs.Cover.{unionOf, thirdPlace, secondPlace, firstPlace};
+ghost use Rattle.plan.specs.Cover.{unionOf};
+ghost use Rattle.plan.specs.Pairs.{outside, thirdHeld, secondHeld, firstHeld, Limited, Tabled, Paired};
 ghost use Rattle.plan.specs.Outcome.{verdict};
 ghost use Rattle.plan.specs.Calls.{covering, admitting};
 
@@ -41,31 +43,29 @@ fn union_of(sets: &[u8]) -> u8
     boards
 }
 
-// The first k from j on with which the sets at i and j cover all boards; the list's length if there is none.
-fn third_place(n: u8, sets: &[u8], i: usize, j: usize) -> usize
-    requires { ⌜ (n ≤ 8) × (i < length (now sets)) × (j < length (now sets)) ⌝ }
-    ensures { λ r. ⌜ r ≡ thirdPlace n (now (sets .entry)) i j ⌝ }
+// The boards below n that are not in s.
+fn outside_of(n: u8, s: u8) -> u8
+    ensures { λ r. ⌜ r ≡ outside (min n 8) s ⌝ }
 {
-    let all = all_boards(n);
-    let pair = sets[i] | sets[j];
-    let mut k = j;
-    while k < sets.len() {
-        if subset(all, pair | sets[k]) {
-            return k;
-        }
-        k += 1;
-    }
-    k
+    all_boards(n) & !s
 }
 
-// The first j from i on for which there is such a k.
-fn second_place(n: u8, sets: &[u8], i: usize) -> usize
-    requires { ⌜ (n ≤ 8) × (i < length (now sets)) ⌝ }
-    ensures { λ r. ⌜ r ≡ secondPlace n (now (sets .entry)) i ⌝ }
+// The place of the first set that holds the boards that the sets at i and j leave; FF if none does.
+fn third_held(n: u8, sets: &[u8], holders: &[u8], i: usize, j: usize) -> u8
+    requires { ⌜ Paired n (now sets) (now holders) i j ⌝ }
+    ensures { λ r. ⌜ r ≡ thirdHeld n (now (sets .entry)) i j ⌝ }
+{
+    holders[outside_of(n, sets[i] | sets[j]) as usize]
+}
+
+// The first j from i on for which a set holds what the sets at i and j leave; the list's length if there is none.
+fn second_held(n: u8, sets: &[u8], holders: &[u8], i: usize) -> usize
+    requires { ⌜ Tabled n (now sets) (now holders) ⌝ }
+    ensures { λ r. ⌜ r ≡ secondHeld n (now (sets .entry)) i ⌝ }
 {
     let mut j = i;
     while j < sets.len() {
-        if third_place(n, sets, i, j) < sets.len() {
+        if third_held(n, sets, holders, i, j) != 255 {
             return j;
         }
         j += 1;
@@ -73,14 +73,14 @@ fn second_place(n: u8, sets: &[u8], i: usize) -> usize
     j
 }
 
-// The first i for which there are such a j and k.
-fn first_place(n: u8, sets: &[u8]) -> usize
-    requires { ⌜ n ≤ 8 ⌝ }
-    ensures { λ r. ⌜ r ≡ firstPlace n (now (sets .entry)) ⌝ }
+// The first i for which there is such a j.
+fn first_held(n: u8, sets: &[u8], holders: &[u8]) -> usize
+    requires { ⌜ Tabled n (now sets) (now holders) ⌝ }
+    ensures { λ r. ⌜ r ≡ firstHeld n (now (sets .entry)) ⌝ }
 {
     let mut i = 0;
     while i < sets.len() {
-        if second_place(n, sets, i) < sets.len() {
+        if second_held(n, sets, holders, i) < sets.len() {
             return i;
         }
         i += 1;
@@ -88,30 +88,31 @@ fn first_place(n: u8, sets: &[u8]) -> usize
     i
 }
 
-// Number 5, by trying every triple.
-fn judge_triples(n: u8, sets: &[u8]) -> Verdict
-    requires { ⌜ (n ≤ 8) × (length (now sets) ≤ 32) ⌝ }
+// Number 5: the first pair for which a set holds what both leave, and that set. They are the first triple.
+fn judge_pairs(n: u8, sets: &[u8]) -> Verdict
+    requires { ⌜ Limited n (now sets) ⌝ }
     ensures { λ r. ⌜ verdict r ≡ covering n (now (sets .entry)) ⌝ }
 {
-    let i = first_place(n, sets);
+    let holders = holders_of(sets);
+    let i = first_held(n, sets, &holders);
     if i < sets.len() {
-        let j = second_place(n, sets, i);
-        let k = third_place(n, sets, i, j);
-        return Verdict::Refused(Refusal::Covered(i as u8, j as u8, k as u8));
+        let j = second_held(n, sets, &holders, i);
+        let k = third_held(n, sets, &holders, i, j);
+        return Verdict::Refused(Refusal::Covered(i as u8, j as u8, k));
     }
     Verdict::Accepted
 }
 
-// Number 5. Where a board stands in no set no three sets cover, and no triple is tried.
+// Number 5. Where a board stands in no set no three sets cover, and no pair is tried.
 fn judge_cover(n: u8, sets: &[u8]) -> Verdict
-    requires { ⌜ (n ≤ 8) × (length (now sets) ≤ 32) ⌝ }
+    requires { ⌜ Limited n (now sets) ⌝ }
     ensures { λ r. ⌜ verdict r ≡ covering n (now (sets .entry)) ⌝ }
 {
     let boards = union_of(sets);
     if !subset(all_boards(n), boards) {
         return Verdict::Accepted;
     }
-    judge_triples(n, sets)
+    judge_pairs(n, sets)
 }
 
 // Admitting a list of sets: 1 to 5, in order.

@@ -3,3 +3,4 @@ pub mod admission;
 pub mod plan;
 pub mod refusal;
 pub mod schedule;
+pub mod values;

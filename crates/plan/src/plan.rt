@@ -7,7 +7,7 @@ ghost use Prim.Native.Nat.{_-_, _≤_};
 ghost use mathlib.Core.List.{_++_};
 ghost use lib.ListN.{length, replicate};
 ghost use Rattle.plan.specs.Outcome.{verdict};
-ghost use Rattle.plan.specs.Calls.{settings, planning, planned, planOn, voidPlan};
+ghost use Rattle.plan.specs.Calls.{judgeSettings, planning, planned, planOn, voidPlan, judged};
 
 // A list of sets, a dealer, a span (values are below it) and a depth (0: the tree is not cut).
 // The slots of `sets` past the count are ignored.
@@ -18,6 +18,13 @@ pub struct Plan {
     pub depth: u8,
     pub count: u8,
     pub sets: [u8; 32],
+}
+
+// What a plan has beside its sets: a dealer, a span and a depth.
+pub struct Settings {
+    pub dealer: u8,
+    pub span: u8,
+    pub depth: u8,
 }
 
 // The answer to planning, and the plan; beside a refusal the void plan.
@@ -37,15 +44,17 @@ impl Plan {
     pub const SHALLOW: u8 = 4;
 
     pub const DEEP: u8 = 7;
+    // A cell without a value; no value is it, since values are below a span of at most this.
+    pub const BLANK: u8 = 255;
 
     // Planning: 1 to 8, in order.
-    pub fn new(n: u8, sets: &[u8], dealer: u8, span: u8, depth: u8) -> Planned
-        ensures { λ r. ⌜ (verdict (r .answer) ≡ planning n (length (now (sets .entry))) (now (sets .entry)) dealer span depth) × (r .plan ≡ planned n (now (sets .entry)) dealer span depth) ⌝ }
+    pub fn new(n: u8, sets: &[u8], settings: Settings) -> Planned
+        ensures { λ r. ⌜ (verdict (r .answer) ≡ planning n (length (now (sets .entry))) (now (sets .entry)) settings) × (r .plan ≡ planned n (now (sets .entry)) settings) ⌝ }
     {
-        let answer = judge(n, sets, dealer, span, depth);
+        let answer = judge(n, sets, settings);
         match answer {
             Verdict::Accepted => {
-                let plan = Plan::on(n, sets, dealer, span, depth);
+                let plan = Plan::on(n, sets, settings);
                 Planned {
                     answer: Verdict::Accepted,
                     plan: plan,
@@ -59,6 +68,30 @@ impl Plan {
                 }
             }
         }
+    }
+
+    // The plan's own fields: 1 to 8. Above 32 sets only the number of boards comes before 3.
+    pub fn judge(self) -> Verdict
+        ensures { λ r. ⌜ verdict r ≡ judged self ⌝ }
+    {
+        let n = self.n;
+        let count = self.count as usize;
+        if Plan::SETS < count {
+            if n == 0 {
+                return Verdict::Refused(Refusal::Boards);
+            }
+            if Plan::BOARDS < n {
+                return Verdict::Refused(Refusal::Boards);
+            }
+            return Verdict::Refused(Refusal::TooManySets);
+        }
+        let sets = self.sets;
+        let settings = Settings {
+            dealer: self.dealer,
+            span: self.span,
+            depth: self.depth,
+        };
+        judge(n, &sets[0..count], settings)
     }
 
     // The plan beside a refusal: every call refuses it.
@@ -76,16 +109,16 @@ impl Plan {
     }
 
     // The plan on at most 32 sets.
-    fn on(n: u8, sets: &[u8], dealer: u8, span: u8, depth: u8) -> Plan
+    fn on(n: u8, sets: &[u8], settings: Settings) -> Plan
         requires { ⌜ length (now sets) ≤ 32 ⌝ }
-        ensures { λ r. ⌜ r ≡ planOn n (now (sets .entry)) dealer span depth ⌝ }
+        ensures { λ r. ⌜ r ≡ planOn n (now (sets .entry)) settings ⌝ }
     {
         let slots = copied(sets);
         Plan {
             n: n,
-            dealer: dealer,
-            span: span,
-            depth: depth,
+            dealer: settings.dealer,
+            span: settings.span,
+            depth: settings.depth,
             count: sets.len() as u8,
             sets: slots,
         }
@@ -107,20 +140,23 @@ fn copied(sets: &[u8]) -> [u8; 32]
 }
 
 // 1 to 8, in order.
-fn judge(n: u8, sets: &[u8], dealer: u8, span: u8, depth: u8) -> Verdict
-    ensures { λ r. ⌜ verdict r ≡ planning n (length (now (sets .entry))) (now (sets .entry)) dealer span depth ⌝ }
+fn judge(n: u8, sets: &[u8], settings: Settings) -> Verdict
+    ensures { λ r. ⌜ verdict r ≡ planning n (length (now (sets .entry))) (now (sets .entry)) settings ⌝ }
 {
     let answer = admit(n, sets);
     match answer {
-        Verdict::Accepted => judge_settings(n, dealer, span, depth),
+        Verdict::Accepted => judge_settings(n, settings),
         Verdict::Refused(why) => Verdict::Refused(why),
     }
 }
 
 // 6, 7 and 8.
-fn judge_settings(n: u8, dealer: u8, span: u8, depth: u8) -> Verdict
-    ensures { λ r. ⌜ verdict r ≡ settings n dealer span depth ⌝ }
+fn judge_settings(n: u8, settings: Settings) -> Verdict
+    ensures { λ r. ⌜ verdict r ≡ judgeSettings n settings ⌝ }
 {
+    let dealer = settings.dealer;
+    let span = settings.span;
+    let depth = settings.depth;
     if n <= dealer {
         return Verdict::Refused(Refusal::Dealer);
     }

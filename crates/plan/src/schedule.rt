@@ -2,11 +2,13 @@
 use crate::plan::Plan;
 use sets::boards::has;
 use sets::boards::size_of;
+use sets::holders::holders_of;
 ghost use mathlib.Core.Path.{_≡_};
 ghost use Prim.Native.Nat.{_-_, _≤_, min};
 ghost use mathlib.Core.Bool.{cond};
 ghost use Rattle.sets.specs.Sets.{member, size};
-ghost use Rattle.plan.specs.Schedule.{largest, height, isCut, rounds, runs, steps, hasRound, ceilDiv};
+ghost use Rattle.sets.specs.Holders.{holderTable};
+ghost use Rattle.plan.specs.Schedule.{depthOf, listed, largest, height, isCut, rounds, runs, steps, hasRound, ceilDiv};
 
 // The number of a run, from 1.
 pub struct Run(pub u8);
@@ -66,6 +68,22 @@ fn later_runs(n: u8, depth: u8) -> u8
 }
 
 impl Plan {
+    // The depth of the tree; 0: it is not cut.
+    fn depth_of(self) -> u8
+        ensures { λ r. ⌜ r ≡ depthOf self ⌝ }
+    {
+        self.depth
+    }
+
+    // The table of holders of the listed sets.
+    pub fn holders(self) -> [u8; 128]
+        ensures { λ r. ⌜ r ≡ holderTable (listed self) ⌝ }
+    {
+        let sets = self.sets;
+        let count = slots_used(self.count);
+        holders_of(&sets[0..count])
+    }
+
     // The number of levels, H.
     pub fn levels(self) -> u8
         ensures { λ r. ⌜ (r ≡ height self) × (r ≤ 9) ⌝ }
@@ -79,7 +97,7 @@ impl Plan {
     pub fn cut(self) -> bool
         ensures { λ r. ⌜ r ≡ isCut self ⌝ }
     {
-        let depth = self.depth;
+        let depth = self.depth_of();
         if depth == 0 {
             return false;
         }
@@ -91,7 +109,7 @@ impl Plan {
         ensures { λ r. ⌜ r ≡ rounds self ⌝ }
     {
         if self.cut() {
-            return Round(self.depth);
+            return Round(self.depth_of());
         }
         Round(self.levels())
     }
@@ -101,7 +119,7 @@ impl Plan {
         ensures { λ r. ⌜ r ≡ runs self ⌝ }
     {
         if self.cut() {
-            return Run(later_runs(self.n, self.depth) + 1);
+            return Run(later_runs(self.n, self.depth_of()) + 1);
         }
         Run(1)
     }

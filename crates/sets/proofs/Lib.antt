@@ -3,4 +3,6 @@ pub mod Search
 pub mod Count
 pub mod Member
 pub mod Tolerated
+pub mod Held
+pub mod Filling
 pub mod Only

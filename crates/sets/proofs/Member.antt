@@ -3,11 +3,11 @@
 use Prim.Native.Nat.{ℕ, zero, suc, _+_, _-_, _/_, _%_, _^_, _≤_, _<_, min, max}
 use mathlib.Core.Path.{_≡_, sym, _∙_, ap, subst}
 use mathlib.Core.Logic.{_≢_}
-use mathlib.Core.Bool.{Bool, true, false, _&&_, _||_, or-comm, and-false}
+use mathlib.Core.Bool.{Bool, true, false, not, _&&_, _||_, or-comm, and-false}
 use native.Mathlib.Nat.{mod-eq-of-lt, mul-add-mod-self-right, div-div-eq-div-mul, pow-succ', pow-suc, div-one, div-eq-of-lt, one-mul}
 use native.Mathlib.Omega.{arith}
 use lib.Dec.{eqb, ltb}
-use lib.Bits.{bitAnd, bitOr, and-step, or-step, and-shr, or-shr, and-le-l, and-self, mask-lt, or-lt}
+use lib.Bits.{bitAnd, bitOr, and-step, or-step, and-shr, or-shr, and-le-l, and-self, and-mask, mask-lt, or-lt, or-shifted-r}
 use lib.Pow.{pow-mono, pow-lt, pow-pos, pow-add, shl-shr, high, ones-lt, ones-split}
 use borrow.Author.Tests.{eqb-true, eqb-false, eq-eqb, ltb-true, ltb-false, lt-ltb, le-ltb}
 use Rattle.sets.specs.Search.{count}
@@ -66,6 +66,25 @@ bit-member i s e = eq-eqb (s / 2 ^ i % 2) 1 e
 not-member-bit : (i s : ℕ) → member i s ≡ false → bit i s ≡ 0
 not-member-bit i s e = let n : bit i s ≢ 1 = λ z. clash (bit-member i s z) e in omega (arith, bit-two i s)
 
+-- Sets with the same members are equal.
+pub same-members : (k a b : ℕ) → a < 2 ^ k → b < 2 ^ k → ((i : ℕ) → i < k → member i a ≡ member i b) → a ≡ b
+same-members k a b ha hb h =
+    bits-equal k a b ha hb (λ i l. cases (member i b)
+    (λ e. member-bit i a (h i l ∙ e) ∙ sym (member-bit i b e))
+    (λ e. not-member-bit i a (h i l ∙ e) ∙ sym (not-member-bit i b e)))
+
+pub member-half : (i a : ℕ) → member i (a / 2) ≡ member (suc i) a
+unfolding member bit
+member-half i a = ap (λ x. eqb x 1) (bit-half i a)
+
+pub member-even : (a : ℕ) → a % 2 ≡ 0 → member 0 a ≡ false
+unfolding bit
+member-even a e = is-false (member 0 a) (λ t. absurd (omega (arith, member-bit 0 a t, ap (λ x. x % 2) (div-one a))))
+
+pub even-member : (a : ℕ) → member 0 a ≡ false → a % 2 ≡ 0
+unfolding bit
+even-member a e = sym (ap (λ x. x % 2) (div-one a)) ∙ not-member-bit 0 a e
+
 -- Board i is in a union if it is in one of the two.
 pub member-union : (i a b : ℕ) → member i (union a b) ≡ (member i a || member i b)
 unfolding union
@@ -76,6 +95,30 @@ member-union i a b =
     (λ e. rw e (cases (member i b)
     (λ f. bit-member i (bitOr a b) (omega (arith, q, not-member-bit i a e, member-bit i b f)) ∙ sym f)
     (λ f. is-false (member i (bitOr a b)) (λ t. absurd (omega (arith, q, member-bit i (bitOr a b) t, not-member-bit i a e, not-member-bit i b f))) ∙ sym f)))
+
+-- And in what both have if it is in both.
+pub member-both : (i a b : ℕ) → member i (bitAnd a b) ≡ (member i a && member i b)
+member-both i a b =
+    let q = bit-and i a b in
+    cases (member i a)
+    (λ e. rw e (cases (member i b)
+    (λ f. bit-member i (bitAnd a b) (omega (arith, q, member-bit i a e, member-bit i b f)) ∙ sym f)
+    (λ f. is-false (member i (bitAnd a b)) (λ t. absurd (omega (arith, q, member-bit i (bitAnd a b) t, not-member-bit i b f))) ∙ sym f)))
+    (λ e. rw e (is-false (member i (bitAnd a b)) (λ t. absurd (omega (arith, q, member-bit i (bitAnd a b) t, not-member-bit i a e)))))
+
+-- The boards below k that are not in s.
+pub member-not : (k i s : ℕ) → s < 2 ^ k → i < k → member i (2 ^ k - 1 - s) ≡ not (member i s)
+unfolding bit
+member-not zero i s h l = absurd (omega arith)
+member-not (suc k) zero s h l =
+    let odd : (2 ^ suc k - 1 - s) % 2 + s % 2 ≡ 1 = omega (arith, pow-suc 2 k) in
+    cases (member 0 s)
+    (λ e. rw e (member-even (2 ^ suc k - 1 - s) (omega (arith, member-bit 0 s e, ap (λ x. x % 2) (div-one s)))))
+    (λ e. rw e (bit-member 0 (2 ^ suc k - 1 - s) (ap (λ x. x % 2) (div-one (2 ^ suc k - 1 - s)) ∙ omega (arith, even-member s e))))
+member-not (suc k) (suc i) s h l =
+    let half : (2 ^ suc k - 1 - s) / 2 ≡ 2 ^ k - 1 - s / 2 = omega (arith, pow-suc 2 k) in
+    sym (member-half i (2 ^ suc k - 1 - s)) ∙ ap (member i) half ∙ member-not k i (s / 2) (omega (arith, pow-suc 2 k)) (omega arith)
+    ∙ ap not (member-half i s)
 
 -- A number below 2 ^ k has no board from k on.
 pub member-high : (k i s : ℕ) → s < 2 ^ k → k ≤ i → member i s ≡ false
@@ -135,6 +178,21 @@ member-boards i n =
         let z : (2 ^ (suc k + i) - 1) / 2 ^ i ≡ 2 ^ suc k - 1 =
         ap (λ x. x / 2 ^ i) (ones-split (suc k) i) ∙ high (2 ^ suc k - 1) i (ones-lt i) in
         ap (λ x. x % 2) z ∙ omega (arith, pow-suc 2 k, pow-pos k)
+
+-- The lowest k boards of a set.
+pub member-low : (k i s : ℕ) → i < k → member i (s % 2 ^ k) ≡ member i s
+unfolding boards
+member-low k i s l =
+    let full : bit i (2 ^ k - 1) ≡ 1 = member-bit i (boards k) (member-boards i k ∙ lt-ltb i k l) in
+    let e : bit i (s % 2 ^ k) ≡ bit i s = ap (bit i) (sym (and-mask s k)) ∙ bit-and i s (2 ^ k - 1) ∙ omega (arith, full, bit-two i s) in
+    cases (member i s)
+    (λ t. bit-member i (s % 2 ^ k) (e ∙ member-bit i s t) ∙ sym t)
+    (λ t. is-false (member i (s % 2 ^ k)) (λ u. absurd (omega (arith, member-bit i (s % 2 ^ k) u, e, not-member-bit i s t))) ∙ sym t)
+
+-- A board above those of a set, added as a number.
+pub insert-above : (k a : ℕ) → a < 2 ^ k → 2 ^ k + a ≡ insert k a
+unfolding insert
+insert-above k a h = sym (ap (λ x. bitOr a x) (sym (one-mul (2 ^ k))) ∙ or-shifted-r 1 k a h ∙ ap (λ x. x + a) (one-mul (2 ^ k)))
 
 pub within-member : (a s : ℕ) → within a s ≡ true → (i : ℕ) → member i a ≡ true → member i s ≡ true
 unfolding within

@@ -1,9 +1,9 @@
 -- The laws of bounded search.
 -- Assumes nothing.
-use Prim.Native.Nat.{ℕ, zero, suc, _+_, _-_, _≤_, _<_}
-use mathlib.Core.Path.{_≡_, sym, _∙_, ap, subst}
+use Prim.Native.Nat.{ℕ, zero, suc, _+_, _-_, _≤_, _<_, min}
+use mathlib.Core.Path.{_≡_, refl, sym, _∙_, ap, subst}
 use mathlib.Core.Logic.{_≢_}
-use mathlib.Core.Bool.{Bool, true, false, cond}
+use mathlib.Core.Bool.{Bool, true, false, _||_, cond}
 use native.Mathlib.Omega.{arith}
 use native.Mathlib.Numerals.{add-one}
 use lib.Dec.{eqb, ltb}
@@ -88,12 +88,29 @@ any-same f g k h =
     (λ e. let (i, l, t) = any-true f k e in any-of g k i l (sym (h i l) ∙ t))
     (λ e. let (i, l, t) = any-true g k e in any-of f k i l (h i l ∙ t))
 
+pub first-same : (f g : ℕ → Bool) (left i : ℕ) → ((k : ℕ) → f k ≡ g k) → first f left i ≡ first g left i
+unfolding first
+first-same f g zero i h = refl
+first-same f g (suc left) i h = rw (h i, first-same f g left (suc i) h)
+
+-- The first that passes one of two tests is the earlier of the two that are found.
+pub first-either : (f g : ℕ → Bool) (left i : ℕ) → first (λ k. f k || g k) left i ≡ min (first f left i) (first g left i)
+unfolding first
+first-either f g zero i = omega arith
+first-either f g (suc left) i =
+    let ih = first-either f g left (suc i) in
+    let a = first-ge f left (suc i) in
+    let b = first-ge g left (suc i) in
+    cases (f i)
+    (λ e. cases (g i) (λ d. rw (e, d) (omega arith)) (λ d. rw (e, d) (omega arith)))
+    (λ e. cases (g i) (λ d. rw (e, d) (omega arith)) (λ d. rw (e, d) ih))
+
 pub seek-start : (f : ℕ → Bool) (n : ℕ) → first f (n - 0) 0 ≡ first f n 0
 seek-start f n = ap (λ m. first f m 0) (let z : n - 0 ≡ n = omega arith in z)
 
 -- A loop that counts i up to n and leaves at the first i that passes: what it is still to find is what it set out to find.
 module _ (f : ℕ → Bool) (n i : ℕ) where
-  opened : i < n → first f (n - i) i ≡ cond (f i) i (first f (n - (i + 1)) (i + 1))
+  pub opened : i < n → first f (n - i) i ≡ cond (f i) i (first f (n - (i + 1)) (i + 1))
   unfolding first
   opened h =
       ap (λ m. first f m i) (let e : n - i ≡ suc (n - (i + 1)) = omega arith in e)

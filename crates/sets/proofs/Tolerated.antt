@@ -5,7 +5,7 @@ use mathlib.Core.Path.{_≡_, refl, subst}
 use mathlib.Core.Logic.{_≢_, _⊎_, inl, inr, ⊎-elim, _↔_}
 use mathlib.Core.Bool.{Bool, true, false}
 use mathlib.Core.List.{List}
-use mathlib.Core.Option.{some, none}
+use mathlib.Core.Option.{Option, some, none}
 use native.Mathlib.Omega.{arith}
 use lib.Dec.{eqb, ltb}
 use lib.ListN.{length, getD}
@@ -57,6 +57,14 @@ module _ (sets : List ℕ) where
       (λ e. inr (cases (ltb f (length sets))
       (λ b. let l : f < length sets = ltb-true f (length sets) b in (f, l, first-true (holds a) (length sets) 0 (omega arith)))
       (λ b. clash (rw (holder-none a f (eqb-false a 0 e) refl (ltb-false f (length sets) b)) at t) refl)))
+
+  pub tolerated-holder : (a : ℕ) → tolerated sets a ≡ true → (i : ℕ) × (holder sets a ≡ some i)
+  unfolding tolerated isSome
+  tolerated-holder a t = go (holder sets a) refl
+    where
+      go : (o : Option ℕ) → holder sets a ≡ o → (i : ℕ) × (holder sets a ≡ some i)
+      go none e = clash (rw e at t) refl
+      go (some i) e = (i, e)
 
   -- The place that `holder` gives is the first listed set that holds a, if there are listed sets at all.
   pub holder-first : (a i : ℕ) → 0 < length sets → holder sets a ≡ some i

@@ -31,12 +31,12 @@ returns c =
     let n = s .args .n in
     let sets = s .args .sets .now in
     let e : within (boards n) (unionOf sets (length sets)) ≡ false =
-    ap (λ x. within (boards x) (unionOf sets (length sets))) (let z : n ≡ min n 8 = omega (arith, s .pre .0) in z)
+    ap (λ x. within (boards x) (unionOf sets (length sets))) (let z : n ≡ min n 8 = omega (arith, s .pre .most-boards) in z)
     ∙ sym (c .before .subset .ensures ∙ ap₂ within (c .before .before .all-boards .ensures) (c .before .before .before .union-of .ensures)) ∙ not-t _ (c .if1 .taken) in
     rw (uncovered sets n e)
 
-judge-triples-requires : tie.Need-judge-triples-requires
-judge-triples-requires c κs = search needs
+judge-pairs-requires : tie.Need-judge-pairs-requires
+judge-pairs-requires c κs = search needs
 
 returns-2 : tie.Need-returns-2
 returns-2 c = search needs
@@ -49,5 +49,5 @@ judge-cover-spec =
     all-boards-requires
     subset-requires
     returns
-    judge-triples-requires
+    judge-pairs-requires
     returns-2)

@@ -3,7 +3,7 @@ use Rattle.plan.proofs.Outcomes.{taken-first, refused-first, refusal-nu
 use mathlib.Core.Path.{sym, ap, _∙_}
 use lib.ListN.{length}
 use Rattle.plan.specs.Outcome.{verdict}
-use Rattle.plan.specs.Calls.{planning, settings}
+use Rattle.plan.specs.Calls.{planning, judgeSettings}
 use borrow.Author.Needs.{needs}
 use Rattle.plan.proofs.plan.judge.Statement.{statement}
 use Rattle.plan.proofs.plan.judge.Tie as tie
@@ -25,14 +25,14 @@ unfolding planning verdict
 returns c =
     let a = c .before .before .before .before .before .args in
     let ok = ap verdict (sym (c .before .enum-told .given .1)) ∙ c .before .before .before .admit .ensures in
-    c .judge-settings .ensures ∙ sym (taken-first (admitting a.n (length (a.sets .now)) (a.sets .now)) (settings a.n a.dealer a.span a.depth) (ap (λ o. o .number) (sym ok)))
+    c .judge-settings .ensures ∙ sym (taken-first (admitting a.n (length (a.sets .now)) (a.sets .now)) (judgeSettings a.n a.settings) (ap (λ o. o .number) (sym ok)))
 
 returns-2 : tie.Need-returns-2
 unfolding planning verdict
 returns-2 c =
     let a = c .before .before .before .before .before .args in
     let no = ap verdict (sym (c .before .answer .given .1)) ∙ c .before .before .before .admit .ensures in
-    no ∙ sym (refused-first (admitting a.n (length (a.sets .now)) (a.sets .now)) (settings a.n a.dealer a.span a.depth) (λ z. refusal-number _ (ap (λ o. o .number) no ∙ z)))
+    no ∙ sym (refused-first (admitting a.n (length (a.sets .now)) (a.sets .now)) (judgeSettings a.n a.settings) (λ z. refusal-number _ (ap (λ o. o .number) no ∙ z)))
 
 pub judge-spec : {M : Type 1} → statement M
 judge-spec =

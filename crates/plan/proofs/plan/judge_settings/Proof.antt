@@ -1,31 +1,31 @@
 use borrow.Author.Tests.{lt-ltb, le-ltb, le-leb, lt-leb, eq-eqb, ne-eqb}
 use Rattle.plan.specs.Outcome.{verdict, refusal}
-use Rattle.plan.specs.Calls.{settings, isDepth}
+use Rattle.plan.specs.Calls.{judgeSettings, isDepth}
 use Rattle.plan.proofs.plan.judge_settings.Statement.{statement}
 use Rattle.plan.proofs.plan.judge_settings.Tie as tie
 
 returns : tie.Need-returns
-unfolding verdict refusal settings
+unfolding verdict refusal judgeSettings
 returns c = simp (le-leb _ _ (c .if1 .taken))
 
 returns-2 : tie.Need-returns-2
-unfolding verdict refusal settings
+unfolding verdict refusal judgeSettings
 returns-2 c = simp (lt-leb _ _ (c .before .if1 .left), lt-ltb _ _ (c .if2 .taken))
 
 returns-3 : tie.Need-returns-3
-unfolding verdict refusal settings isDepth
+unfolding verdict refusal judgeSettings isDepth
 returns-3 c = simp (lt-leb _ _ (c .before .before .if1 .left), le-ltb _ _ (c .before .if2 .left), eq-eqb _ _ (c .if3 .taken))
 
 returns-4 : tie.Need-returns-4
-unfolding verdict refusal settings isDepth
+unfolding verdict refusal judgeSettings isDepth
 returns-4 c = simp (lt-leb _ _ (c .before .before .before .if1 .left), le-ltb _ _ (c .before .before .if2 .left), ne-eqb _ _ (c .before .if3 .left), lt-leb _ _ (c .if4 .taken))
 
 returns-5 : tie.Need-returns-5
-unfolding verdict refusal settings isDepth
+unfolding verdict refusal judgeSettings isDepth
 returns-5 c = simp (lt-leb _ _ (c .before .before .before .before .if1 .left), le-ltb _ _ (c .before .before .before .if2 .left), ne-eqb _ _ (c .before .before .if3 .left), le-leb _ _ (c .before .if4 .left), lt-leb _ _ (c .if5 .taken))
 
 returns-6 : tie.Need-returns-6
-unfolding verdict refusal settings isDepth
+unfolding verdict refusal judgeSettings isDepth
 returns-6 c = simp (lt-leb _ _ (c .before .before .before .before .if1 .left), le-ltb _ _ (c .before .before .before .if2 .left), ne-eqb _ _ (c .before .before .if3 .left), le-leb _ _ (c .before .if4 .left), le-leb _ _ (c .if5 .left))
 
 pub judge-settings-spec : {M : Type 1} → statement M

@@ -1,23 +1,23 @@
+-- `cut` meets its contract.
+-- Assumes nothing.
+use mathlib.Core.Path.{sym, ap, ap₂, _∙_}
 use lib.Dec.{ltb}
-use mathlib.Core.Path.{ap, _∙_}
-use borrow.Author.Tests.{eq-eqb, ne-eqb}
-use Rattle.plan.specs.Schedule.{isCut}
 use borrow.Author.Needs.{needs}
+use borrow.Author.Tests.{eq-eqb, ne-eqb}
+use Rattle.plan.specs.Schedule.{depthOf, isCut}
 use Rattle.plan.proofs.plan.Plan.cut.Statement.{statement}
 use Rattle.plan.proofs.plan.Plan.cut.Tie as tie
 
 returns : tie.Need-returns
 unfolding isCut
-returns c = simp (eq-eqb _ _ (c .if1 .taken))
-
-levels-requires : tie.Need-levels-requires
-levels-requires c κs = search needs
+returns c = simp (eq-eqb _ _ (sym (c .before .depth-of .ensures) ∙ c .if1 .taken))
 
 returns-2 : tie.Need-returns-2
 unfolding isCut
 returns-2 c =
-    let p = c .before .before .args .self in
-    ap (λ x. ltb (p .depth) x) (c .levels .ensures .0) ∙ simp (ne-eqb _ _ (c .before .if1 .left))
+    let p = c .before .before .before .args .self in
+    let depth = c .before .before .depth-of .ensures in
+    ap₂ ltb depth (c .levels .ensures .0) ∙ simp (ne-eqb _ _ (λ e. c .before .if1 .left (depth ∙ e)))
 
 pub cut-spec : {M : Type 1} → statement M
-cut-spec = tie.close (tie.spec returns levels-requires returns-2)
+cut-spec = tie.close (tie.spec (λ c κs. search needs) returns (λ c κs. search needs) returns-2)

@@ -17,7 +17,7 @@ unfolding verdict
 on-requires c κs =
     let a = c .before .before .before .before .args in
     let ok = ap verdict (sym (c .enum-told .given .1)) ∙ c .before .before .judge .ensures in
-    accepted a.n (length (a.sets .now)) (a.sets .now) a.dealer a.span a.depth (ap (λ o. o .number) (sym ok)) .admission .most-sets
+    accepted a.n (length (a.sets .now)) (a.sets .now) a.settings (ap (λ o. o .number) (sym ok)) .admission .most-sets
 
 enum-known-answer : tie.Need-enum-known-answer
 enum-known-answer c = search needs
@@ -30,14 +30,14 @@ unfolding verdict
 returns c =
     let a = c .before .before .before .before .before .args in
     let ok = ap verdict (sym (c .before .enum-told .given .1)) ∙ c .before .before .before .judge .ensures in
-    (ok, c .on .ensures ∙ sym (planned-taken a.n (a.sets .now) a.dealer a.span a.depth (ap (λ o. o .number) (sym ok))))
+    (ok, c .on .ensures ∙ sym (planned-taken a.n (a.sets .now) a.settings (ap (λ o. o .number) (sym ok))))
 
 returns-2 : tie.Need-returns-2
 unfolding verdict
 returns-2 c =
     let a = c .before .before .before .before .before .before .args in
     let no = ap verdict (sym (c .before .before .answer .given .1)) ∙ c .before .before .before .before .judge .ensures in
-    (no, c .void .ensures ∙ sym (planned-refused a.n (a.sets .now) a.dealer a.span a.depth (λ z. refusal-number _ (ap (λ o. o .number) no ∙ z))))
+    (no, c .void .ensures ∙ sym (planned-refused a.n (a.sets .now) a.settings (λ z. refusal-number _ (ap (λ o. o .number) no ∙ z))))
 
 pub new-spec : {M : Type 1} → statement M
 new-spec =

@@ -1,0 +1,32 @@
+use Prim.Native.Nat.{min, _-_}
+use mathlib.Core.Path.{_≡_, ap, _∙_}
+use native.Mathlib.Omega.{arith}
+use lib.ListN.{length, take}
+use borrow.Author.Needs.{needs}
+use Rattle.sets.specs.Holders.{holderTable}
+use Rattle.plan.proofs.Levels.{slots-listed}
+use Rattle.plan.proofs.plan.Plan.holders.Statement.{statement}
+use Rattle.plan.proofs.plan.Plan.holders.Tie as tie
+
+part-holders-of-end : tie.Need-part-holders-of-end
+part-holders-of-end c =
+    let h : length (c .before .before .before .args .self .sets) ≡ 32 = search needs in
+    omega arith
+
+returns : tie.Need-returns
+returns c =
+    let p = c .before .before .before .before .before .args .self in
+    let h : length (p .sets) ≡ 32 = search needs in
+    let k : c .before .before .before .slots-used .result - 0 ≡ min (p .count) 32 = omega arith in
+    c .holders-of .ensures ∙ ap holderTable (ap (λ m. take m (p .sets)) k ∙ slots-listed p h)
+
+pub holders-spec : {M : Type 1} → statement M
+holders-spec =
+    tie.close
+    (tie.spec
+    (λ c κs. search needs)
+    (λ c. search needs)
+    (λ c. search needs)
+    part-holders-of-end
+    (λ c κs. search needs)
+    returns)

@@ -1,0 +1,23 @@
+// The values of a plan.
+use crate::plan::Plan;
+ghost use mathlib.Core.Path.{_≡_};
+ghost use Rattle.plan.specs.Values.{default, value};
+
+impl Plan {
+    // What stands in for a value that is missing or masked.
+    pub fn default(self) -> u8
+        ensures { λ r. ⌜ r ≡ default self ⌝ }
+    {
+        0
+    }
+
+    // A cell of m or more, read as a value, counts as the default.
+    pub fn value(self, x: u8) -> u8
+        ensures { λ r. ⌜ r ≡ value self x ⌝ }
+    {
+        if x < self.span {
+            return x;
+        }
+        self.default()
+    }
+}
