@@ -21,7 +21,8 @@ use Rattle.tree.proofs.Labels.{root-has}
 use Rattle.theory.specs.Tree as T
 use Rattle.theory.specs.Tree.{Node}
 use Rattle.theory.specs.Runs as U
-use Rattle.protocol.specs.Nodes.{default, read, internal, inner}
+use Rattle.plan.specs.Values.{default}
+use Rattle.protocol.specs.Nodes.{read, internal, inner}
 use Rattle.protocol.specs.Detection.{resolveRoot}
 use Rattle.protocol.specs.Rounds.{Board, rootOnly}
 use Rattle.protocol.specs.Session.{Adversary, Setting, at}

@@ -24,7 +24,8 @@ use Rattle.tree.specs.Places.{cellCount, place}
 use Rattle.tree.specs.Cells.{cellAt, store}
 use Rattle.tree.proofs.Places.{place-injective}
 use Rattle.protocol.specs.declared.records.Record.{Record}
-use Rattle.protocol.specs.Nodes.{default, value, read, sent, due, frame}
+use Rattle.plan.specs.Values.{default, value}
+use Rattle.protocol.specs.Nodes.{read, sent, due, frame}
 use Rattle.protocol.specs.Rounds.{Board, fill, counted, receive}
 use Rattle.protocol.specs.Calls.{judgeOpen, judgeReceiving, frameOf}
 use Rattle.protocol.proofs.Nodes.{inner-inv, node-label, node-length, sent-inv, sent-first}
@@ -32,7 +33,8 @@ use Rattle.protocol.proofs.Fill.{IsLabel, Children}
 use Rattle.protocol.proofs.Judgement.{Good, good-dealer, open-taken}
 use Rattle.protocol.proofs.Bounds.{insert-below}
 use Rattle.protocol.proofs.Reached.{due-sender}
-use Rattle.protocol.proofs.Hearing.{withTaken, isGiven, accepts, marks, content, heardCells, marks-at, marks-below, heard, heard-open, heard-outside, sent-label}
+use Rattle.protocol.specs.Records.{withTaken}
+use Rattle.protocol.proofs.Hearing.{isGiven, accepts, marks, content, heardCells, marks-at, marks-below, heard, heard-open, heard-outside, sent-label}
 
 -- The children by two boards are different cells, so storing them commutes.
 module _ (p : Plan) (l : p .dealer < p .n) (q q′ a : ℕ) (ne : q ≢ q′) where
@@ -141,13 +143,13 @@ module _ (r : Record) (msg : ℕ → Option (List ℕ)) (q : ℕ) (f : List ℕ)
   unfolding accepts
   accepts-other x ne = ap (λ o. due (r .plan) x (r .board) (r .round) && isGiven o) (update-other msg q f x ne)
 
-  content-here : content r (update msg q f) q ≡ counted r q (sent (r .plan) q (r .board) (r .round)) f
+  content-here : content r (update msg q f) q ≡ counted (r .detected) q (sent (r .plan) q (r .board) (r .round)) f
   unfolding content
-  content-here = ap (λ o. counted r q (sent (r .plan) q (r .board) (r .round)) (Option·getD o [])) (update-here msg q f)
+  content-here = ap (λ o. counted (r .detected) q (sent (r .plan) q (r .board) (r .round)) (Option·getD o [])) (update-here msg q f)
 
   content-other : (x : ℕ) → x ≢ q → content r (update msg q f) x ≡ content r msg x
   unfolding content
-  content-other x ne = ap (λ o. counted r x (sent (r .plan) x (r .board) (r .round)) (Option·getD o [])) (update-other msg q f x ne)
+  content-other x ne = ap (λ o. counted (r .detected) x (sent (r .plan) x (r .board) (r .round)) (Option·getD o [])) (update-other msg q f x ne)
 
   alike-before : Alike r (update msg q f) msg q
   alike-before = record {
@@ -163,7 +165,7 @@ module _ (r : Record) (msg : ℕ → Option (List ℕ)) (q : ℕ) (f : List ℕ)
 
     cells-more : (j : ℕ) → q < j → j ≤ r .plan .n
         → heardCells r (update msg q f) cells j
-        ≡ fill (r .plan) q (sent (r .plan) q (r .board) (r .round)) (counted r q (sent (r .plan) q (r .board) (r .round)) f) (heardCells r msg cells j)
+        ≡ fill (r .plan) q (sent (r .plan) q (r .board) (r .round)) (counted (r .detected) q (sent (r .plan) q (r .board) (r .round)) f) (heardCells r msg cells j)
     unfolding heardCells
     cells-more zero lt h = absurd (omega arith)
     cells-more (suc j) lt h =
@@ -177,7 +179,7 @@ module _ (r : Record) (msg : ℕ → Option (List ℕ)) (q : ℕ) (f : List ℕ)
         cases (accepts r msg j)
         (λ t. rw (t, accepts-other j ne ∙ t)
         (ap₂ (fill p j (sent p j (r .board) (r .round))) (content-other j ne) ih
-        ∙ fill-commutes p (good-dealer r g) (r .board) (r .round) (g .position .round-low) j q (content r msg j) (counted r q αs f) (heardCells r msg cells j) ne h lq))
+        ∙ fill-commutes p (good-dealer r g) (r .board) (r .round) (g .position .round-low) j q (content r msg j) (counted (r .detected) q αs f) (heardCells r msg cells j) ne h lq))
         (λ t. rw (t, accepts-other j ne ∙ t) ih))
 
     marks-more : marks r (update msg q f) (r .plan .n) ≡ insert q (marks r msg (r .plan .n))

@@ -17,7 +17,8 @@ use Rattle.plan.specs.Schedule.{rounds}
 use Rattle.tree.specs.Labels.{Label, last, labels}
 use Rattle.tree.specs.Cells.{cellAt}
 use Rattle.tree.proofs.Labels.{no-label, root-inv, label-inv}
-use Rattle.protocol.specs.Nodes.{default, value, read, internal, inner}
+use Rattle.plan.specs.Values.{default, value}
+use Rattle.protocol.specs.Nodes.{read, internal, inner}
 use Rattle.sets.specs.Only.{only}
 use Rattle.sets.proofs.Only.{only-some}
 use Rattle.protocol.specs.Detection.{vote, resolve, resolveRoot, byCell, byResolving, join, passes, Scan, detect1, detectAll1, detect2, detectAll2, detectLevels}

@@ -22,6 +22,7 @@ use Rattle.theory.proofs.Soundness.{spared}
 use Rattle.protocol.specs.Nodes.{inner}
 use Rattle.protocol.specs.declared.records.Record.{Record}
 use Rattle.protocol.specs.Detection.{resolveRoot, Scan, explained, byResolving, passes, detect2, detectAll2, detectLevels}
+use Rattle.protocol.specs.Records.{runEnded}
 use Rattle.protocol.specs.Rounds.{rootOnly, convert}
 use Rattle.protocol.proofs.Bounds.{detect2-joined, detect2-kept}
 use Rattle.protocol.proofs.Instance.{tol, tol-mono, inst}
@@ -131,10 +132,10 @@ module _ (p : Plan) (i : ℕ) (cells : List ℕ) where
 
 -- 01: "L stays" when a run ends.
 pub convert-grow : (r : Record) (s : Scan) (q : ℕ) → member q (s .detected) ≡ true → member q (convert r s .rec .detected) ≡ true
-unfolding convert
+unfolding convert runEnded
 convert-grow r s q h = levels-grow (r .plan) (r .board) (s .cells) (rounds (r .plan) .0 - 1) (s .detected) q h
 
 -- 01: "The resolved root becomes the root cell", in every run.
 pub convert-cells : (r : Record) (s : Scan) → convert r s .cells ≡ rootOnly (r .plan .n) (resolveRoot (r .plan) (r .board) (s .cells)) (s .cells)
-unfolding convert
+unfolding convert runEnded
 convert-cells r s = refl

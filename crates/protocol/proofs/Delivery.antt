@@ -25,7 +25,8 @@ use Rattle.plan.specs.Calls.{judged}
 use Rattle.plan.specs.Cover.{strays}
 use Rattle.tree.specs.Labels.{Label, occurs}
 use Rattle.theory.specs.Tree as T
-use Rattle.protocol.specs.Nodes.{value, read, nodes, inner, sent, due, frame}
+use Rattle.plan.specs.Values.{value}
+use Rattle.protocol.specs.Nodes.{read, nodes, inner, sent, due, frame}
 use Rattle.protocol.specs.Detection.{Scan, detectAll1}
 use Rattle.protocol.specs.Calls.{frameOf}
 use Rattle.protocol.specs.Session.{Adversary, Setting, hears, at}

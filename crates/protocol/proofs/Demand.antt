@@ -18,7 +18,7 @@ use Rattle.sets.proofs.Count.{count-same, count-mono}
 use Rattle.plan.specs.declared.plan.Plan.{Plan}
 use Rattle.plan.specs.declared.schedule.Run.{Run}
 use Rattle.plan.specs.declared.schedule.Round.{Round}
-use Rattle.plan.specs.Schedule.{isCut, rounds, runs, steps, stepRun, stepRound}
+use Rattle.plan.specs.Schedule.{depthOf, isCut, rounds, runs, steps, stepRun, stepRound}
 use Rattle.plan.specs.Schedule as S
 use Rattle.plan.specs.Outcome.{Outcome, taken, refused}
 use Rattle.plan.specs.Calls.{andThen, judged}
@@ -189,13 +189,13 @@ module _ (s : Setting) (calls : List Call) (sound : Sound s) (fair : Fair s call
 
   bounded : isCut plan ≡ true → (t : ℕ) (before : ℕ → List Call) → ((i : ℕ) → keeper s i ≡ true → EndsRun s t i (before i) calls)
       → (i k : ℕ) → keeper s i ≡ true → keeper s k ≡ true → root s i (before i) ≢ root s k (before k)
-      → t * (plan .depth - 3) + 1 ≤ count (onEvery s (λ i. list s i (before i))) (plan .n)
+      → t * (depthOf plan - 3) + 1 ≤ count (onEvery s (λ i. list s i (before i))) (plan .n)
   unfolding root rootAfter
   bounded cut t before e i k ki kk ne =
       let (low-t, high-t) = run-in t i (before i) ki (e i ki) in
       let root-is : (m : ℕ) (km : keeper s m ≡ true) → root s m (before m) ≡ rootAfter s (adversary s calls sound fair) t m =
       λ m km. ap (λ (b : Board). getD (b .cells) 0 blank) (ended-is t m (before m) km (e m km)) in
-      subst (λ x. t * (plan .depth - 3) + 1 ≤ x)
+      subst (λ x. t * (depthOf plan - 3) + 1 ≤ x)
       (count-same (onEvery s (listEnded s (adversary s calls sound fair) t)) (onEvery s (λ i. list s i (before i))) (plan .n) (λ r _. every t before e r))
       (synchronous s (adversary s calls sound fair) sound .bound cut t low-t high-t i k ki kk (λ z. ne (root-is i ki ∙ z ∙ sym (root-is k kk))))
 
@@ -207,7 +207,7 @@ module _ (s : Setting) (calls : List Call) (sound : Sound s) (fair : Fair s call
   -- Who stands on all lists that the closings left stands on all of them after the whole list.
   bounded-now : isCut plan ≡ true → (t : ℕ) (before : ℕ → List Call) → ((i : ℕ) → keeper s i ≡ true → EndsRun s t i (before i) calls)
       → (i k : ℕ) → keeper s i ≡ true → keeper s k ≡ true → root s i (before i) ≢ root s k (before k)
-      → t * (plan .depth - 3) + 1 ≤ count (onEvery s (listAfter s calls)) (plan .n)
+      → t * (depthOf plan - 3) + 1 ≤ count (onEvery s (listAfter s calls)) (plan .n)
   bounded-now cut t before e i k ki kk ne =
       let then : ℕ → ℕ = λ i. list s i (before i) in
       let more = count-mono (onEvery s then) (onEvery s (listAfter s calls)) (plan .n) (λ r _. every-mono s then (listAfter s calls) r

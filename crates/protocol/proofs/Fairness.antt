@@ -31,7 +31,8 @@ use Rattle.protocol.specs.Session.{Adversary, Setting, begun, hears, boa
 use Rattle.protocol.specs.Lists.{Call, isClosing, receives, sends, closes, decides, caller, leaves, answers, step, state, after, keeper, Prefix, Stands, Taken, Sound, SameRound, Written, AsSent, HandedIn, HandedInAsSent, Fair, closings}
 use Rattle.protocol.proofs.Judgement.{is-taken, taken-is, Good, Open, open-facts, open-taken}
 use Rattle.protocol.proofs.Reached.{receiving-facts, receiving-taken, receiving-refused, due-sender, closing-refused}
-use Rattle.protocol.proofs.Hearing.{withTaken, hear, marks, heardCells, accepts, content, isGiven, heard-open, hear-shape}
+use Rattle.protocol.specs.Records.{withTaken}
+use Rattle.protocol.proofs.Hearing.{hear, marks, heardCells, accepts, content, isGiven, heard-open, hear-shape}
 use Rattle.protocol.proofs.Synchronous.{canon, Standing, standing, keeper-facts, at-start, at-next, told}
 use Rattle.protocol.proofs.Session.{synchronous}
 use Rattle.protocol.proofs.Prefixes.{state-next, step-own, step-other, takes, takes-other, takes-refused, ends, ends-not, ends-untaken, closings-same, closings-taken, closings-mono, prefix-refl, prefix-trans, stands-prefix, along}
@@ -108,7 +109,7 @@ module _ (s : Setting) (calls : List Call) (sound : Sound s) (fair : Fair s call
         (λ q lq. cases (due plan q i (stepRound plan (suc j)))
         (λ d. ap (λ o. due plan q i (stepRound plan (suc j)) && isGiven o) (h q lq d))
         (λ d. rw d refl))
-        (λ q lq a. ap (λ o. counted (recAt j i) q (sent plan q i (stepRound plan (suc j))) (Option·getD o [])) (h q lq (and-l (due plan q i (stepRound plan (suc j))) (isGiven (msg q)) a)))
+        (λ q lq a. ap (λ o. counted ((recAt j i) .detected) q (sent plan q i (stepRound plan (suc j))) (Option·getD o [])) (h q lq (and-l (due plan q i (stepRound plan (suc j))) (isGiven (msg q)) a)))
 
     hearing-taken : (msg : ℕ → Option (List ℕ)) (q : ℕ) → judgeReceiving (hearing j i msg) q .number ≡ 0
         → (q < plan .n) × (due plan q i (stepRound plan (suc j)) ≡ true) × (msg q ≡ none)

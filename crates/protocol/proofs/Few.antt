@@ -27,8 +27,9 @@ use Rattle.tree.proofs.Entries.{getD-mem}
 use Rattle.tree.proofs.Children.{child-get, ordinal-size}
 use Rattle.tree.proofs.Sizes.{size-suc}
 use Rattle.tree.proofs.Ranks.{label-width}
+use Rattle.protocol.specs.Limits.{frameMost, frameRoom}
 use Rattle.protocol.specs.declared.records.Record.{Record}
-use Rattle.protocol.specs.Nodes.{filter, internal, nodes, inner, sent, due, frame}
+use Rattle.protocol.specs.Nodes.{filter, internal, nodes, inner, carried, sent, due, frame}
 use Rattle.protocol.specs.Rounds.{Board, counted, receive}
 use Rattle.protocol.specs.Calls.{isTaken, judgeOpen, judgeReceiving, receiving, frameOf, judgeSending, sending}
 use Rattle.protocol.proofs.Nodes.{inner-inv, node-label}
@@ -36,12 +37,12 @@ use Rattle.protocol.proofs.Judgement.{is-taken, plan-facts, Open, open-
 use Rattle.protocol.proofs.Reached.{receiving-facts, receiving-refused, due-sender}
 
 -- Filters.
-filter-length : (f : Label → Bool) (αs : List Label) → length (filter f αs) ≤ length αs
+pub filter-length : (f : Label → Bool) (αs : List Label) → length (filter f αs) ≤ length αs
 unfolding filter
 filter-length f [] = omega arith
 filter-length f (α ∷ αs) = let ih = filter-length f αs in cases (f α) (λ e. rw e (omega arith)) (λ e. rw e (omega arith))
 
-filter-append : (f : Label → Bool) (αs βs : List Label) → filter f (αs ++ βs) ≡ filter f αs ++ filter f βs
+pub filter-append : (f : Label → Bool) (αs βs : List Label) → filter f (αs ++ βs) ≡ filter f αs ++ filter f βs
 unfolding filter
 filter-append f [] βs = refl
 filter-append f (α ∷ αs) βs = let ih = filter-append f αs βs in cases (f α) (λ e. rw e (ap (λ x. α ∷ x) ih)) (λ e. rw e ih)
@@ -127,12 +128,12 @@ module _ (p : Plan) (q i : ℕ) (ld : p .dealer < p .n) (lq : q < p .n) where
       omega (arith, ap (λ x. length (without q x)) (next-nodes k), size-suc (p .n - 1) k)
 
 -- These are at most 120 where n is at most 7.
-size-few : (m k : ℕ) → m ≤ 6 → levelSize m k ≤ 120
+size-few : (m k : ℕ) → m ≤ 6 → levelSize m k ≤ frameMost
 size-few m k l =
     cases (leb k 7)
-    (λ e. let f : ℕ → ℕ → Bool = λ a b. leb (levelSize a b) 120 in
+    (λ e. let f : ℕ → ℕ → Bool = λ a b. leb (levelSize a b) frameMost in
     let low : k ≤ 7 = leb-true k 7 e in
-    leb-true (levelSize m k) 120 (all-at (f m) 8 (all-at (λ a. all (f a) 8) 7 (unfold levelSize in refl) m (omega arith)) k (omega arith)))
+    leb-true (levelSize m k) frameMost (all-at (f m) 8 (all-at (λ a. all (f a) 8) 7 (unfold levelSize in refl) m (omega arith)) k (omega arith)))
     (λ e. let high : 7 < k = leb-false k 7 e in
     let deep : k ≡ suc (suc (k - 2)) = omega arith in
     let none : m - suc (k - 2) ≡ 0 = omega arith in
@@ -140,31 +141,32 @@ size-few m k l =
     ap (levelSize m) deep ∙ size-suc m (k - 2) ∙ ap (λ x. levelSize m (suc (k - 2)) * x) none ∙ mul-zero (levelSize m (suc (k - 2))) in
     omega arith)
 
+-- A level has at most 120 internal nodes without q.
+pub carried-few : (p : Plan) (q i k : ℕ) → p .dealer < p .n → p .n ≤ 7 → q < p .n → length (carried p q i k) ≤ frameMost
+unfolding carried
+carried-few p q i k ld most lq =
+    omega (arith, inner-few p q i ld lq k, level-few p q i ld lq k, size-few (p .n - 1) k (omega arith))
+
 -- A frame has at most 120 values.
-pub few : (p : Plan) → judged p .number ≡ 0 → (q i : ℕ) (k : Round) → q < p .n → length (sent p q i k) ≤ 120
+pub few : (p : Plan) → judged p .number ≡ 0 → (q i : ℕ) (k : Round) → q < p .n → length (sent p q i k) ≤ frameMost
 unfolding sent
 few p e q i k lq =
     let f = plan-facts p e in
     cases (eqb (k .0) 1)
     (λ x. cases (eqb q (p .dealer)) (λ y. rw (x, y) (omega arith)) (λ y. rw (x, y) (omega arith)))
-    (λ x. rw x (omega (
-      arith,
-      inner-few p q i (f .dealer-below) lq (k .0 - 1),
-      level-few p q i (f .dealer-below) lq (k .0 - 1),
-      size-few (p .n - 1) (k .0 - 1) (omega (arith, f .admission .most-boards)),
-    )))
+    (λ x. rw x (carried-few p q i (k .0 - 1) (f .dealer-below) (f .admission .most-boards) lq))
 
 -- Of a frame only its first 121 values are read: past 120 its length is wrong.
-counted-few : (r : Record) (q : ℕ) (αs : List Label) (f : List ℕ) → length αs ≤ 120 → counted r q αs (take 121 f) ≡ counted r q αs f
+counted-few : (r : Record) (q : ℕ) (αs : List Label) (f : List ℕ) → length αs ≤ frameMost → counted (r .detected) q αs (take frameRoom f) ≡ counted (r .detected) q αs f
 unfolding counted
 counted-few r q αs f l =
-    cases (leb (length f) 121)
-    (λ e. ap (λ x. cond (eqb (length x) (length αs) && not (member q (r .detected))) x []) (take-all 121 f (leb-true (length f) 121 e)))
-    (λ e. let high : 121 < length f = leb-false (length f) 121 e in
-    let cut : length (take 121 f) ≡ 121 = length-take-le 121 f (omega arith) in
-    rw (ne-eqb (length (take 121 f)) (length αs) (omega arith), ne-eqb (length f) (length αs) (omega arith)))
+    cases (leb (length f) frameRoom)
+    (λ e. ap (λ x. cond (eqb (length x) (length αs) && not (member q (r .detected))) x []) (take-all frameRoom f (leb-true (length f) frameRoom e)))
+    (λ e. let high : frameRoom < length f = leb-false (length f) frameRoom e in
+    let cut : length (take frameRoom f) ≡ frameRoom = length-take-le frameRoom f (omega arith) in
+    rw (ne-eqb (length (take frameRoom f)) (length αs) (omega arith), ne-eqb (length f) (length αs) (omega arith)))
 
-pub overlong : (b : Board) (q : ℕ) (f : List ℕ) → receiving b q (take 121 f) ≡ receiving b q f
+pub overlong : (b : Board) (q : ℕ) (f : List ℕ) → receiving b q (take frameRoom f) ≡ receiving b q f
 unfolding receiving receive
 overlong b q f =
     let r = b .rec in
@@ -176,7 +178,7 @@ overlong b q f =
     (λ e. rw e)
 
 -- A board that is open and has a frame due to some board writes it where there is room for 121 values.
-pub sends : (b : Board) (out : List ℕ) → Open b → 121 ≤ length out → any (λ i. due (b .rec .plan) (b .rec .board) i (b .rec .round)) (b .rec .plan .n) ≡ true
+pub sends : (b : Board) (out : List ℕ) → Open b → frameRoom ≤ length out → any (λ i. due (b .rec .plan) (b .rec .board) i (b .rec .round)) (b .rec .plan .n) ≡ true
     → sending b out .answer ≡ taken (length (frameOf b) ∷ [])
 unfolding sending judgeSending
 sends b out o room d =
@@ -187,7 +189,7 @@ sends b out o room d =
     taken-first (judgeOpen b) _ (ap (λ x. x .number) (open-taken b o)) ∙ rw (d, le-ltb (length out) (length (frameOf b)) (omega arith)) refl
 
 -- Where it writes none, nothing that is handed in under its number is taken in that round.
-pub unsent : (b c : Board) (out f : List ℕ) → Open b → 121 ≤ length out → c .rec .plan ≡ b .rec .plan → c .rec .round ≡ b .rec .round
+pub unsent : (b c : Board) (out f : List ℕ) → Open b → frameRoom ≤ length out → c .rec .plan ≡ b .rec .plan → c .rec .round ≡ b .rec .round
     → sending b out .answer .number ≢ 0 → receiving c (b .rec .board) f .board ≡ c
 unsent b c out f o room ep er silent =
     let q = b .rec .board in

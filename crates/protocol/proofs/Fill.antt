@@ -14,7 +14,7 @@ use Rattle.tree.specs.Places.{cellCount, place}
 use Rattle.tree.specs.Cells.{cellAt, store}
 use Rattle.tree.proofs.Places.{place-injective}
 use Rattle.tree.proofs.Cells.{store-length, store-same, store-other}
-use Rattle.protocol.specs.Nodes.{default, value}
+use Rattle.plan.specs.Values.{default, value}
 use Rattle.protocol.specs.Rounds.{fill}
 
 -- The default is a value: it counts as itself.

@@ -26,7 +26,8 @@ use Rattle.tree.proofs.Cells.{store-length, store-same, store-other}
 use Rattle.theory.specs.Tree as T
 use Rattle.theory.specs.Runs as R
 use Rattle.theory.proofs.Soundness.{spared}
-use Rattle.protocol.specs.Nodes.{default, value, read, nodes, inner}
+use Rattle.plan.specs.Values.{default, value}
+use Rattle.protocol.specs.Nodes.{read, nodes, inner}
 use Rattle.protocol.specs.Detection.{explained, byCell, join, passes, Scan, maskBoard, detect1, detectAll1}
 use Rattle.protocol.proofs.Nodes.{no-node, inner-inv, node-label, node-has}
 use Rattle.protocol.proofs.Fill.{IsLabel, label-dec, value-default}

@@ -23,7 +23,9 @@ use Rattle.tree.specs.Labels.{Label}
 use Rattle.tree.specs.Places.{cellCount}
 use Rattle.tree.specs.Cells.{cellAt}
 use Rattle.protocol.specs.declared.records.Record.{Record}
-use Rattle.protocol.specs.Nodes.{default, value, read, nodes, sent, due, frame}
+use Rattle.plan.specs.Values.{default, value}
+use Rattle.protocol.specs.Records.{withTaken}
+use Rattle.protocol.specs.Nodes.{read, nodes, sent, due, frame}
 use Rattle.protocol.specs.Rounds.{Board, fill, counted, receive, fillMissing, copyOwn}
 use Rattle.protocol.specs.Calls.{isTaken, judgeOpen, judgeReceiving}
 use Rattle.protocol.specs.Session.{handIn}
@@ -32,19 +34,6 @@ use Rattle.protocol.proofs.Fill.{IsLabel, fill-length, fill-other, fill
 use Rattle.protocol.proofs.Local.{SameOutside, fill-outside, missing-outside, own-outside, own-length, missing-length}
 use Rattle.protocol.proofs.Judgement.{Good, good-dealer, Open, open-taken}
 use Rattle.protocol.proofs.Reached.{receiving-taken, receiving-refused}
-
--- A record with other marks.
-abbrev pub withTaken : Record → ℕ → Record
-withTaken r t = record {
-  plan = r .plan;
-  board = r .board;
-  run = r .run;
-  round = r .round;
-  detected = r .detected;
-  taken = t;
-  decided = r .decided;
-  decision = r .decision;
-}
 
 -- What board b hears from the boards below j.
 unfoldable pub hear : (ℕ → Option (List ℕ)) → Board → ℕ → Board
@@ -66,7 +55,7 @@ module _ (r : Record) (msg : ℕ → Option (List ℕ)) where
 
   -- What a frame of q counts as.
   unfoldable pub content : ℕ → List ℕ
-  content q = counted r q (sent (r .plan) q (r .board) (r .round)) (Option·getD (msg q) [])
+  content q = counted (r .detected) q (sent (r .plan) q (r .board) (r .round)) (Option·getD (msg q) [])
 
   unfoldable pub heardCells : List ℕ → ℕ → List ℕ
   heardCells cells zero = cells
@@ -190,7 +179,7 @@ module _ (r : Record) (l : r .plan .dealer < r .plan .n) (low : 1 ≤ r .round .
   here = sent-label (r .plan) l (r .board) (r .round) low q α lq m
 
   pub missing-keeps : (j : ℕ) (cells : List ℕ) → j ≤ r .plan .n → member q (r .taken) ≡ true
-      → cellAt (r .plan .n) (fillMissing r j cells) (q ∷ α) ≡ cellAt (r .plan .n) cells (q ∷ α)
+      → cellAt (r .plan .n) (fillMissing (r .plan) (r .board) (r .round) (r .taken) j cells) (q ∷ α) ≡ cellAt (r .plan .n) cells (q ∷ α)
   unfolding fillMissing
   missing-keeps zero cells h t = refl
   missing-keeps (suc j) cells h t =
@@ -198,16 +187,16 @@ module _ (r : Record) (l : r .plan .dealer < r .plan .n) (low : 1 ≤ r .round .
       cases (due (r .plan) j (r .board) (r .round) && not (member j (r .taken)))
       (λ e. let out = not-t (member j (r .taken)) (and-r (due (r .plan) j (r .board) (r .round)) (not (member j (r .taken))) e) in
       let ne : q ≢ j = λ z. clash t (subst (λ x. member x (r .taken) ≡ false) (sym z) out) in
-      rw e (other-sender (r .plan) l (r .board) (r .round) low q j [] (fillMissing r j cells) (r .round .0) α ne h here ∙ ih))
+      rw e (other-sender (r .plan) l (r .board) (r .round) low q j [] (fillMissing (r .plan) (r .board) (r .round) (r .taken) j cells) (r .round .0) α ne h here ∙ ih))
       (λ e. rw e ih)
 
   pub missing-default : (j : ℕ) (cells : List ℕ) → j ≤ r .plan .n → q < j → cellCount (r .plan .n) ≤ length cells
       → due (r .plan) q (r .board) (r .round) ≡ true → member q (r .taken) ≡ false
-      → cellAt (r .plan .n) (fillMissing r j cells) (q ∷ α) ≡ default (r .plan)
+      → cellAt (r .plan .n) (fillMissing (r .plan) (r .board) (r .round) (r .taken) j cells) (q ∷ α) ≡ default (r .plan)
   unfolding fillMissing
   missing-default zero cells h lt room d t = absurd (omega arith)
   missing-default (suc j) cells h lt room d t =
-      let rest = fillMissing r j cells in
+      let rest = fillMissing (r .plan) (r .board) (r .round) (r .taken) j cells in
       let room′ : cellCount (r .plan .n) ≤ length rest = rw (missing-length r l low below j cells) room in
       cases (eqb q j)
       (λ e. let z = eqb-true q j e in
@@ -239,10 +228,10 @@ module _ (r : Record) (g : Good r) (undecided : r .decided ≡ false) (msg : ℕ
   marked = withTaken r (marks r msg (r .plan .n))
 
   unfoldable pub stored : List ℕ
-  stored = fillMissing marked (r .plan .n) (heardCells r msg cells (r .plan .n))
+  stored = fillMissing (marked .plan) (marked .board) (marked .round) (marked .taken) (r .plan .n) (heardCells r msg cells (r .plan .n))
 
   unfoldable pub filled : List ℕ
-  filled = copyOwn marked stored
+  filled = copyOwn (marked .plan) (marked .board) (marked .round) stored
 
   pub heard-outside : (j : ℕ) → j ≤ P₀ .n → SameOutside P₀ L₀ (r .board) (r .round .0) cells (heardCells r msg cells j)
   unfolding heardCells

@@ -27,7 +27,8 @@ use Rattle.tree.proofs.Masks.{mask-member, mask-lt}
 use Rattle.theory.specs.Tree as T
 use Rattle.theory.specs.Tree.{Node, root, child}
 use Rattle.theory.proofs.Plans.{good}
-use Rattle.protocol.specs.Nodes.{default, read, internal, nodes, inner}
+use Rattle.plan.specs.Values.{default}
+use Rattle.protocol.specs.Nodes.{read, internal, nodes, inner}
 use Rattle.protocol.proofs.Nodes.{no-node, root-node, node-root, node-has, node-inv, inner-has, inner-inv}
 use Rattle.protocol.specs.Detection.{vote, tabulate, resolve}
 use Rattle.protocol.proofs.Judgement.{plan-facts}

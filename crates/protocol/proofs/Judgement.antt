@@ -15,7 +15,7 @@ use Rattle.sets.proofs.Member.{within-boards, boards-within}
 use Rattle.plan.specs.declared.plan.Plan.{Plan}
 use Rattle.plan.specs.Schedule.{listed, hasRound}
 use Rattle.plan.specs.Outcome.{Outcome, taken, refused}
-use Rattle.plan.specs.Calls.{andThen, judged}
+use Rattle.plan.specs.Calls.{andThen, judged, settingsOf}
 use Rattle.plan.proofs.Outcomes.{passed, both-taken, Accepted, accepted}
 use Rattle.plan.proofs.Steps.{Has, has-round, round-has}
 use Rattle.tree.specs.Places.{cellCount}
@@ -32,9 +32,9 @@ unfolding isTaken
 taken-is o e = eq-eqb (o .number) 0 e
 
 -- What the plan of an accepted session meets.
-pub plan-facts : (p : Plan) → judged p .number ≡ 0 → Accepted (p .n) (p .count) (listed p) (p .dealer) (p .span) (p .depth)
+pub plan-facts : (p : Plan) → judged p .number ≡ 0 → Accepted (p .n) (p .count) (listed p) (settingsOf p)
 unfolding judged
-plan-facts p e = accepted (p .n) (p .count) (listed p) (p .dealer) (p .span) (p .depth) e
+plan-facts p e = accepted (p .n) (p .count) (listed p) (settingsOf p) e
 
 -- A good record.
 pub record Good (r : Record) : Type 0 where

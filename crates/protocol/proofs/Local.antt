@@ -15,7 +15,8 @@ use Rattle.tree.specs.Labels.{Label, last}
 use Rattle.tree.specs.Cells.{cellAt, store}
 use Rattle.tree.proofs.Cells.{store-length, store-other}
 use Rattle.protocol.specs.declared.records.Record.{Record}
-use Rattle.protocol.specs.Nodes.{default, nodes, inner, sent, due, frame}
+use Rattle.plan.specs.Values.{default}
+use Rattle.protocol.specs.Nodes.{nodes, inner, sent, due, frame}
 use Rattle.protocol.specs.Detection.{Scan, maskBoard, byCell, passes, detect1, detectAll1}
 use Rattle.protocol.specs.Rounds.{fill, fillMissing, copyOwn, gather}
 use Rattle.protocol.proofs.Nodes.{inner-inv, node-label, node-length, sent-node}
@@ -93,7 +94,7 @@ module _ (p : Plan) (l : p .dealer < p .n) (i : ℕ) where
 
 -- A whole round of a board whose number is below n.
 module _ (r : Record) (l : r .plan .dealer < r .plan .n) (low : 1 ≤ r .round .0) (below : r .board < r .plan .n) where
-  pub missing-outside : (k : ℕ) (cells : List ℕ) → k ≤ r .plan .n → SameOutside (r .plan) l (r .board) (r .round .0) cells (fillMissing r k cells)
+  pub missing-outside : (k : ℕ) (cells : List ℕ) → k ≤ r .plan .n → SameOutside (r .plan) l (r .board) (r .round .0) cells (fillMissing (r .plan) (r .board) (r .round) (r .taken) k cells)
   unfolding fillMissing
   missing-outside zero cells h b γ m out = refl
   missing-outside (suc k) cells h b γ m out =
@@ -101,24 +102,24 @@ module _ (r : Record) (l : r .plan .dealer < r .plan .n) (low : 1 ≤ r .round .
       cases (member k (r .taken))
       (λ t. ap (λ c. cellAt (r .plan .n) c γ) (taken-stays r k cells t) ∙ before)
       (λ t. cases (due (r .plan) k (r .board) (r .round))
-      (λ d. rw (d, t) (fill-outside (r .plan) l (r .board) k (r .round) [] (fillMissing r k cells) low h b γ m out ∙ before))
+      (λ d. rw (d, t) (fill-outside (r .plan) l (r .board) k (r .round) [] (fillMissing (r .plan) (r .board) (r .round) (r .taken) k cells) low h b γ m out ∙ before))
       (λ d. rw d before))
 
-  pub missing-length : (k : ℕ) (cells : List ℕ) → length (fillMissing r k cells) ≡ length cells
+  pub missing-length : (k : ℕ) (cells : List ℕ) → length (fillMissing (r .plan) (r .board) (r .round) (r .taken) k cells) ≡ length cells
   unfolding fillMissing
   missing-length zero cells = refl
   missing-length (suc k) cells =
       let before = missing-length k cells in
       cases (due (r .plan) k (r .board) (r .round) && not (member k (r .taken)))
-      (λ e. rw e (fill-length (r .plan) l k (sent (r .plan) k (r .board) (r .round)) [] (fillMissing r k cells) ∙ before))
+      (λ e. rw e (fill-length (r .plan) l k (sent (r .plan) k (r .board) (r .round)) [] (fillMissing (r .plan) (r .board) (r .round) (r .taken) k cells) ∙ before))
       (λ e. rw e before)
 
-  pub own-outside : (cells : List ℕ) → SameOutside (r .plan) l (r .board) (r .round .0) cells (copyOwn r cells)
+  pub own-outside : (cells : List ℕ) → SameOutside (r .plan) l (r .board) (r .round .0) cells (copyOwn (r .plan) (r .board) (r .round) cells)
   unfolding copyOwn
   own-outside cells =
       fill-outside (r .plan) l (r .board) (r .board) (r .round) (frame (r .plan) (r .board) (r .board) (r .round) cells) cells low below
 
-  pub own-length : (cells : List ℕ) → length (copyOwn r cells) ≡ length cells
+  pub own-length : (cells : List ℕ) → length (copyOwn (r .plan) (r .board) (r .round) cells) ≡ length cells
   unfolding copyOwn
   own-length cells =
       fill-length (r .plan) l (r .board) (sent (r .plan) (r .board) (r .board) (r .round)) (frame (r .plan) (r .board) (r .board) (r .round) cells) cells
@@ -126,15 +127,15 @@ module _ (r : Record) (l : r .plan .dealer < r .plan .n) (low : 1 ≤ r .round .
   pub gather-outside : (cells : List ℕ) → SameOutside (r .plan) l (r .board) (r .round .0) cells (gather (record { rec = r; cells = cells }) .cells)
   unfolding gather
   gather-outside cells b γ m out =
-      let filled = fillMissing r (r .plan .n) cells in
+      let filled = fillMissing (r .plan) (r .board) (r .round) (r .taken) (r .plan .n) cells in
       detect-outside (r .plan) l (r .board) (r .round .0) (inner (r .plan) (r .board) (r .round .0 - 1))
-      (record { detected = r .detected; cells = copyOwn r filled }) (λ _ w. w) low b γ m out
+      (record { detected = r .detected; cells = copyOwn (r .plan) (r .board) (r .round) filled }) (λ _ w. w) low b γ m out
       ∙ own-outside filled b γ m out ∙ missing-outside (r .plan .n) cells (omega arith) b γ m out
 
   pub gather-length : (cells : List ℕ) → length (gather (record { rec = r; cells = cells }) .cells) ≡ length cells
   unfolding gather
   gather-length cells =
-      let filled = fillMissing r (r .plan .n) cells in
+      let filled = fillMissing (r .plan) (r .board) (r .round) (r .taken) (r .plan .n) cells in
       detect-length (r .plan) l (r .board) (r .round .0) (inner (r .plan) (r .board) (r .round .0 - 1))
-      (record { detected = r .detected; cells = copyOwn r filled }) (λ _ w. w) low
+      (record { detected = r .detected; cells = copyOwn (r .plan) (r .board) (r .round) filled }) (λ _ w. w) low
       ∙ own-length filled ∙ missing-length (r .plan .n) cells

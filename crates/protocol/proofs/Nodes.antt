@@ -14,7 +14,7 @@ use Rattle.plan.specs.declared.plan.Plan.{Plan}
 use Rattle.plan.specs.declared.schedule.Round.{Round}
 use Rattle.tree.specs.Labels.{Label, occurs, labels, childrenOf}
 use Rattle.tree.proofs.Labels.{ChildBelow, of-child, child-of, root-has, label-has, label-length}
-use Rattle.protocol.specs.Nodes.{filter, internal, nodes, inner, sent}
+use Rattle.protocol.specs.Nodes.{filter, internal, nodes, inner, carried, sent}
 
 pub filter-inv : (f : Label → Bool) (αs : List Label) (α : Label) → List·Memᴰ α (filter f αs) → List·Memᴰ α αs × (f α ≡ true)
 unfolding filter
@@ -80,13 +80,13 @@ module _ (p : Plan) (i : ℕ) where
 
   -- What a board sends after round 1: the internal nodes of the level before without it.
   pub sent-inv : (q : ℕ) (k : Round) (α : Label) → k .0 ≢ 1 → List·Memᴰ α (sent p q i k) → List·Memᴰ α (inner p i (k .0 - 1)) × (occurs q α ≡ false)
-  unfolding sent
+  unfolding sent carried
   sent-inv q k α ne m =
       let (w, t) = filter-inv (λ α. not (occurs q α)) (inner p i (k .0 - 1)) α (rw (ne-eqb (k .0) 1 ne) at m) in
       (w, not-t (occurs q α) t)
 
   pub sent-has : (q : ℕ) (k : Round) (α : Label) → k .0 ≢ 1 → List·Memᴰ α (inner p i (k .0 - 1)) → occurs q α ≡ false → List·Memᴰ α (sent p q i k)
-  unfolding sent
+  unfolding sent carried
   sent-has q k α ne m a = rw (ne-eqb (k .0) 1 ne) (filter-has (λ α. not (occurs q α)) (inner p i (k .0 - 1)) α m (true-not (occurs q α) a))
 
   -- In round 1 the dealer's value is for the empty label.
@@ -124,6 +124,6 @@ unfolding inner internal
 inner-same p i j k = ap (filter (internal p i)) (nodes-same p i j k)
 
 pub sent-same : (p : Plan) (q i j : ℕ) (k : Round) → sent p q i k ≡ sent p q j k
-unfolding sent
+unfolding sent carried
 sent-same p q i j k =
     ap (λ αs. cond (eqb (k .0) 1) (cond (eqb q (p .dealer)) ([] ∷ []) []) (filter (λ α. not (occurs q α)) αs)) (inner-same p i j (k .0 - 1))

@@ -12,6 +12,7 @@ use Rattle.plan.specs.Schedule.{rounds, steps, stepRun, stepRound}
 use Rattle.tree.specs.Places.{cellCount}
 use Rattle.tree.specs.Cells.{blank}
 use Rattle.protocol.specs.declared.records.Record.{Record}
+use Rattle.protocol.specs.Records.{runEnded}
 use Rattle.protocol.specs.Rounds.{Board, nextRound, convert, close}
 use Rattle.protocol.specs.Calls.{freshRecord, frameOf}
 use Rattle.protocol.specs.Session.{Adversary, Setting, at}
@@ -40,7 +41,7 @@ pub record Stays (s : Setting) (i : ℕ) (b : Board) : Type 0 where
 
 -- A closing keeps the board's number.
 close-board : (b : Board) → close b .rec .board ≡ b .rec .board
-unfolding close nextRound convert
+unfolding close nextRound convert runEnded
 close-board b = cases (ltb (b .rec .round .0) (rounds (b .rec .plan) .0)) (λ e. rw e) (λ e. rw e)
 
 module _ (s : Setting) (a : Adversary) (sound : Sound s) where

@@ -16,6 +16,7 @@ use Rattle.sets.proofs.Tests.{cases, clash, and-l, and-true, true-not}
 use Rattle.sets.proofs.Search.{any-true, any-false}
 use Rattle.sets.proofs.Member.{within-empty}
 use Rattle.plan.specs.Schedule.{steps}
+use Rattle.protocol.specs.Limits.{sheetMost, outputNeeded, cellsNeeded}
 use Rattle.protocol.specs.Session.{Setting, Boards, boardAt, at}
 use Rattle.protocol.specs.Sheet.{Head, Frame, headPlan, wrongAt, reading}
 use Rattle.protocol.specs.Playing.{sheetAdversary, setting, finalBoards, printed, boardLine, printBoards, Play, refusedPlay, playHead, playing, refusalText, benchPrints}
@@ -31,17 +32,17 @@ passes true x y l e = absurd (l e)
 passes false x y l e = (refl, refl)
 
 pub played-head : (text cells out : List ℕ) → playing text cells out .answer .number ≡ 0
-    → (reading text .answer .number ≡ 0) × (13699 ≤ length cells) × (playing text cells out ≡ playHead (reading text .head) (reading text .frames) cells out)
+    → (reading text .answer .number ≡ 0) × (cellsNeeded ≤ length cells) × (playing text cells out ≡ playHead (reading text .head) (reading text .frames) cells out)
 unfolding playing refusedPlay wrongAt
 played-head text cells out e =
     let r = reading text in
     let number : Play → ℕ = λ p. p .answer .number in
-    let (b1, e1) = passes (ltb 65536 (length text)) _ _ (omega arith) e in
-    let (b2, e2) = passes (ltb (length out) 49) _ _ (omega arith) (ap number (sym e1) ∙ e) in
-    let (b3, e3) = passes (ltb (length cells) 13699) _ _ (omega arith) (ap number (sym (e1 ∙ e2)) ∙ e) in
+    let (b1, e1) = passes (ltb sheetMost (length text)) _ _ (omega arith) e in
+    let (b2, e2) = passes (ltb (length out) outputNeeded) _ _ (omega arith) (ap number (sym e1) ∙ e) in
+    let (b3, e3) = passes (ltb (length cells) cellsNeeded) _ _ (omega arith) (ap number (sym (e1 ∙ e2)) ∙ e) in
     let e4 = ap number (sym (e1 ∙ e2 ∙ e3)) ∙ e in
     cases (eqb (r .answer .number) 0)
-    (λ t. (eqb-true (r .answer .number) 0 t, ltb-false (length cells) 13699 b3, e1 ∙ e2 ∙ e3 ∙ rw t))
+    (λ t. (eqb-true (r .answer .number) 0 t, ltb-false (length cells) cellsNeeded b3, e1 ∙ e2 ∙ e3 ∙ rw t))
     (λ t. absurd (eqb-false (r .answer .number) 0 t (rw t at e4)))
 
 -- It prints the lines of its boards.

@@ -25,9 +25,10 @@ use Rattle.tree.specs.Labels.{Label, last}
 use Rattle.tree.specs.Places.{cellCount, place}
 use Rattle.tree.specs.Cells.{blank, cellAt}
 use Rattle.tree.proofs.Labels.{label-length, no-label, root-inv, root-has}
-use Rattle.tree.proofs.Places.{place-lt, place-levels}
+use Rattle.tree.proofs.Places.{place-lt, some-cell, place-levels}
 use Rattle.protocol.specs.Nodes.{nodes, sent, due}
 use Rattle.protocol.specs.Detection.{Scan, resolveRoot}
+use Rattle.protocol.specs.Records.{runEnded}
 use Rattle.protocol.specs.Rounds.{Board, counted, receive, gather, nextRound, convert, close, rootOnly}
 use Rattle.protocol.specs.Calls.{isTaken, judgeBoard, judgeCells, judgeOpen, judgeBeginning, beginning, freshRecord, judgeReceiving, receiving, closing}
 use Rattle.protocol.specs.Lists.{Call, receives, sends, closes, decides, leaves, caller, step, after}
@@ -89,7 +90,7 @@ next-good b s g d l = record {
 }
 
 pub convert-good : (b : Board) (s : Scan) → Good (b .rec) → s .detected < 2 ^ b .rec .plan .n → Good (convert (b .rec) s .rec)
-unfolding convert
+unfolding convert runEnded
 convert-good b s g d =
     let r = b .rec in
     let p = r .plan in
@@ -198,7 +199,7 @@ receive-vacant q f b o lq h l k α m v =
     let i = b .rec .board in
     let αs = sent p q i (b .rec .round) in
     ap (λ c. cellAt (p .n) c α) (frame-stored q f b)
-    ∙ fill-other p l q (b .rec .round .0) αs (counted (b .rec) q αs f) (b .cells) k α
+    ∙ fill-other p l q (b .rec .round .0) αs (counted (b .rec .detected) q αs f) (b .cells) k α
     (λ β w. node-label p i (b .rec .round .0) (q ∷ β) (sent-node p i q (b .rec .round) β (o .good .position .round-low) lq w)) m
     (apart q f b o lq l k α m v)
     ∙ h l k α m (still q f b o lq l k α v)
@@ -238,7 +239,7 @@ root-only p l root cells k α m =
     ∙ getD-replicate (cellCount n - 1) (x - 1) blank blank (omega arith)
 
 pub convert-vacant : (b : Board) (s : Scan) → Vacant (convert (b .rec) s)
-unfolding convert
+unfolding convert runEnded
 convert-vacant b s l zero α m v = absurd (no-label (b .rec .plan .n) (b .rec .plan .dealer) α m)
 convert-vacant b s l (suc zero) α m v =
     let r = b .rec in
@@ -269,7 +270,7 @@ unfolding receive
 receive-length q f b o =
     let r = b .rec in
     let αs = sent (r .plan) q (r .board) (r .round) in
-    fill-length (r .plan) (good-dealer r (o .good)) q αs (counted r q αs f) (b .cells)
+    fill-length (r .plan) (good-dealer r (o .good)) q αs (counted (r .detected) q αs f) (b .cells)
 
 pub root-only-length : (n root : ℕ) (cells : List ℕ) → 0 < cellCount n → cellCount n ≤ length cells → length (rootOnly n root cells) ≡ length cells
 unfolding rootOnly
@@ -282,16 +283,15 @@ root-only-length n root cells z h =
     )
 
 pub close-length : (b : Board) → Open b → length (close b .cells) ≡ length (b .cells)
-unfolding close nextRound convert
+unfolding close nextRound convert runEnded
 close-length b o =
     let r = b .rec in
     let p = r .plan in
     let l = good-dealer r (o .good) in
     let g = gather-length r l (o .good .position .round-low) (o .good .below) (b .cells) in
-    let some-cell : 0 < cellCount (p .n) = let z = place-lt (p .n) (p .dealer) 1 (p .dealer ∷ []) l (root-has (p .n) (p .dealer)) in omega arith in
     cases (ltb (r .round .0) (rounds p .0))
     (λ e. rw e g)
-    (λ e. rw e (root-only-length (p .n) (resolveRoot p (r .board) (gather b .cells)) (gather b .cells) some-cell (rw g (o .room)) ∙ g))
+    (λ e. rw e (root-only-length (p .n) (resolveRoot p (r .board) (gather b .cells)) (gather b .cells) (some-cell (p .n) (p .dealer) l) (rw g (o .room)) ∙ g))
 
 -- A board that was begun, and then called in any way.
 pub record Reached (b : Board) : Type 0 where
@@ -347,7 +347,7 @@ closing-refused b e = rw e
 
 -- A closing keeps the plan.
 pub close-plan : (b : Board) → close b .rec .plan ≡ b .rec .plan
-unfolding close nextRound convert
+unfolding close nextRound convert runEnded
 close-plan b = cases (ltb (b .rec .round .0) (rounds (b .rec .plan) .0)) (λ e. rw e) (λ e. rw e)
 
 pub reached-closing : (b : Board) → Reached b → Reached (closing b .board)

@@ -19,8 +19,10 @@ use Rattle.plan.specs.Schedule.{rounds, steps, step, stepRun, stepRound}
 use Rattle.plan.proofs.Steps.{Has, round-of-step}
 use Rattle.tree.specs.Labels.{Label, occurs, last}
 use Rattle.theory.specs.Tree as T
-use Rattle.protocol.specs.Nodes.{default, read, inner}
+use Rattle.plan.specs.Values.{default}
+use Rattle.protocol.specs.Nodes.{read, inner}
 use Rattle.protocol.specs.Detection.{Scan, byCell, byResolving, resolve, detectLevels}
+use Rattle.protocol.specs.Records.{runEnded}
 use Rattle.protocol.specs.Rounds.{Board, gather, nextRound, convert}
 use Rattle.protocol.specs.Session.{Adversary, Setting, at}
 use Rattle.protocol.specs.Lists.{keeper, Sound}
@@ -63,7 +65,7 @@ module _ (s : Setting) (a : Adversary) (sound : Sound s) where
 
     pub ended-board : R ≤ open-round s a sound j
         → at s a (suc j) i .rec .detected ≡ detectLevels plan i (scan j i .cells) (R - 1) (scan j i .detected)
-    unfolding convert
+    unfolding convert runEnded
     ended-board h = ap (λ (b : Board). b .rec .detected) (run-ends s a sound j l (inv s a sound j l) i ki h)
 
     -- So does a step.

@@ -16,7 +16,7 @@ use Rattle.sets.proofs.Search.{any-same}
 use Rattle.sets.proofs.Count.{count-same}
 use Rattle.sets.proofs.Member.{member-within, member-setOf, setOf-below, size-count}
 use Rattle.plan.specs.declared.plan.Plan.{Plan}
-use Rattle.plan.specs.Schedule.{isCut, rounds, runs, steps, stepRun}
+use Rattle.plan.specs.Schedule.{depthOf, isCut, rounds, runs, steps, stepRun}
 use Rattle.plan.proofs.Levels.{rounds-pos, runs-pos, rounds-full, rounds-cut}
 use Rattle.plan.proofs.Height.{height-most}
 use Rattle.plan.proofs.Steps.{runs-enough, cut-four}
@@ -25,6 +25,7 @@ use Rattle.theory.specs.Tree as T
 use Rattle.theory.specs.Runs as U
 use Rattle.theory.proofs.Agreement.{persistence, validity, detection, cut-agreement, full-agreement}
 use Rattle.protocol.specs.declared.records.Record.{Record}
+use Rattle.protocol.specs.Records.{runEnded}
 use Rattle.protocol.specs.Rounds.{Board, rootOnly, convert, close}
 use Rattle.protocol.specs.Session.{Adversary, Setting, at}
 use Rattle.protocol.specs.Lists.{keeper, Sound, onEvery}
@@ -74,7 +75,7 @@ module _ (s : Setting) (a : Adversary) (sound : Sound s) where
 
   decision : (i : ℕ) (ki : keeper s i ≡ true)
       → (at s a (steps plan) i .rec .decided ≡ true) × (at s a (steps plan) i .rec .decision ≡ roots s a sound last-run i)
-  unfolding convert
+  unfolding convert runEnded
   decision i ki =
       let j = last-step s a sound last-run in
       let l = in-time s a sound last-run in-runs in
@@ -104,7 +105,7 @@ module _ (s : Setting) (a : Adversary) (sound : Sound s) where
       cases (isCut plan)
       (λ e. let four = cut-four plan (sound .accepted) e in
       let r = ap (λ x. x .0) (rounds-cut plan e) in
-      cut-agreement G S (plan .depth - 3) last-run (let z : rounds plan .0 - 1 ≡ suc (suc (plan .depth - 3)) = omega arith in z) (omega arith)
+      cut-agreement G S (depthOf plan - 3) last-run (let z : rounds plan .0 - 1 ≡ suc (suc (depthOf plan - 3)) = omega arith in z) (omega arith)
       (runs-enough plan (sound .accepted) e) in-runs (healthy s a sound i ki) (healthy s a sound k kk))
       (λ e. full-agreement G S (small-sets e) last-run in-runs (healthy s a sound i ki) (healthy s a sound k kk))
 
@@ -136,16 +137,16 @@ module _ (s : Setting) (a : Adversary) (sound : Sound s) where
           i (healthy s a sound i ki)
 
       bounded : isCut plan ≡ true → (t t′ : ℕ) → t′ ≡ suc t → t′ ≤ runs plan .0 → (i k : ℕ) → keeper s i ≡ true → keeper s k ≡ true
-          → rootAfter s a t′ i ≢ rootAfter s a t′ k → t′ * (plan .depth - 3) + 1 ≤ count (onEvery s (listEnded s a t′)) (plan .n)
+          → rootAfter s a t′ i ≢ rootAfter s a t′ k → t′ * (depthOf plan - 3) + 1 ≤ count (onEvery s (listEnded s a t′)) (plan .n)
       bounded e t t′ et high i k ki kk ne =
           let four = cut-four plan (sound .accepted) e in
           let r = ap (λ x. x .0) (rounds-cut plan e) in
           let lt : t < runs plan .0 = omega arith in
-          let many = detection (good s a sound) (session s a sound) (plan .depth - 3) (let z : rounds plan .0 - 1 ≡ suc (suc (plan .depth - 3)) = omega arith in z)
+          let many = detection (good s a sound) (session s a sound) (depthOf plan - 3) (let z : rounds plan .0 - 1 ≡ suc (suc (depthOf plan - 3)) = omega arith in z)
           t lt (healthy s a sound i ki) (healthy s a sound k kk)
           (λ z. ne (subst (λ x. rootAfter s a x i ≡ rootAfter s a x k) (sym et) (root-after t lt i ki ∙ z ∙ sym (root-after t lt k kk)))) in
           let same = count-same (U.global (inst plan) (listOf F) (lists s a sound (suc t))) (onEvery s (listEnded s a (suc t))) (plan .n) (λ q _. every-list t lt q) in
-          subst (λ x. x * (plan .depth - 3) + 1 ≤ count (onEvery s (listEnded s a x)) (plan .n)) (sym et) (omega arith)
+          subst (λ x. x * (depthOf plan - 3) + 1 ≤ count (onEvery s (listEnded s a x)) (plan .n)) (sym et) (omega arith)
 
 pub synchronous : Synchronous
 synchronous = session-agreement

@@ -22,7 +22,8 @@ use Rattle.plan.specs.Calls.{planning, planOn, judged}
 use Rattle.plan.proofs.Outcomes.{passed, both-taken, accepted, planned-taken, planned-judged}
 use Rattle.tree.specs.Places.{levelSize, levelStart, cellCount}
 use Rattle.tree.proofs.Below.{most}
-use Rattle.protocol.specs.Sheet.{Line, lineBytes, Head, headOf, headPlan, judgeHead, Frame, frameLine, goodFrame, Reading, wrongAt, refusedReading, addFrame, readFrames, readHead, readLines, lines, reading}
+use Rattle.protocol.specs.Limits.{cellsNeeded}
+use Rattle.protocol.specs.Sheet.{Line, lineBytes, Head, headOf, headPlan, judgeHead, Frame, frameLine, goodFrame, Reading, wrongAt, refusedReading, addFrame, readFrames, readHead, readLines, lines, reading, headSettings}
 use Rattle.protocol.specs.Playing.{part, setting}
 use Rattle.protocol.specs.Lists.{keeper, Sound}
 
@@ -35,7 +36,7 @@ pub record GoodHead (h : Head) : Type 0 where
   pub faulty-within : within (h .faulty) (boards (h .n)) ≡ true
   pub faulty-tolerated : tolerated (h .sets) (h .faulty) ≡ true
   pub counted : length (h .sets) ≡ h .count
-  pub planned : planning (h .n) (length (h .sets)) (h .sets) (h .dealer) (h .span) (h .depth) .number ≡ 0
+  pub planned : planning (h .n) (length (h .sets)) (h .sets) (headSettings h) .number ≡ 0
 
 sets-size : (bytes : List ℕ) → length bytes ≡ 7 + headOf bytes .count → length (headOf bytes .sets) ≡ headOf bytes .count
 unfolding headOf
@@ -54,12 +55,12 @@ head-good bytes e =
     let (e1, e2) = passed (ltb (length bytes) 7 || not (eqb (length bytes) (7 + h .count))) (refused 22) _ (omega arith) e in
     let whole : length bytes ≡ 7 + h .count =
     eqb-true (length bytes) (7 + h .count) (not-f (eqb (length bytes) (7 + h .count)) (or-r (ltb (length bytes) 7) (not (eqb (length bytes) (7 + h .count))) e1)) in
-    let (e3, e4) = both-taken (planning (h .n) (h .count) (h .sets) (h .dealer) (h .span) (h .depth)) _ e2 in
+    let (e3, e4) = both-taken (planning (h .n) (h .count) (h .sets) (headSettings h)) _ e2 in
     let (e5, e6) = both-taken _ _ e4 in
     let inside = within (h .faulty) (boards (h .n)) in
     let borne = tolerated (h .sets) (h .faulty) in
     let both = not-refused (inside && borne) (refused 23) (omega arith) e6 in
-    let f = accepted (h .n) (h .count) (h .sets) (h .dealer) (h .span) (h .depth) e3 in
+    let f = accepted (h .n) (h .count) (h .sets) (headSettings h) e3 in
     let size = sets-size bytes whole in
     record {
       some-board = f .admission .some-board;
@@ -69,7 +70,7 @@ head-good bytes e =
       faulty-within = and-l inside borne both;
       faulty-tolerated = and-r inside borne both;
       counted = size;
-      planned = subst (λ c. planning (h .n) c (h .sets) (h .dealer) (h .span) (h .depth) .number ≡ 0) (sym size) e3;
+      planned = subst (λ c. planning (h .n) c (h .sets) (headSettings h) .number ≡ 0) (sym size) e3;
     }
 
 -- Reading line by line: what each case leaves.
@@ -145,9 +146,9 @@ sheet-head text e = lines-good (lines text) e
 
 -- The plan of an accepted head.
 module _ (h : Head) (g : GoodHead h) where
-  plan-on : headPlan h ≡ planOn (h .n) (h .sets) (h .dealer) (h .span) (h .depth)
+  plan-on : headPlan h ≡ planOn (h .n) (h .sets) (headSettings h)
   unfolding headPlan
-  plan-on = planned-taken (h .n) (h .sets) (h .dealer) (h .span) (h .depth) (g .planned)
+  plan-on = planned-taken (h .n) (h .sets) (headSettings h) (g .planned)
 
   pub head-n : headPlan h .n ≡ h .n
   unfolding planOn
@@ -167,14 +168,14 @@ module _ (h : Head) (g : GoodHead h) where
 
   pub head-judged : judged (headPlan h) .number ≡ 0
   unfolding headPlan
-  head-judged = ap (λ (o : Outcome). o .number) (planned-judged (h .n) (h .sets) (h .dealer) (h .span) (h .depth) (g .planned)) ∙ g .planned
+  head-judged = ap (λ (o : Outcome). o .number) (planned-judged (h .n) (h .sets) (headSettings h) (g .planned)) ∙ g .planned
 
 -- The cells of all boards.
-pub parts-most : (n : ℕ) → n ≤ 7 → n * cellCount n ≤ 13699
+pub parts-most : (n : ℕ) → n ≤ 7 → n * cellCount n ≤ cellsNeeded
 unfolding cellCount levelStart levelSize
-parts-most n l = most (λ k. k * cellCount k) 13699 8 refl n (omega arith)
+parts-most n l = most (λ k. k * cellCount k) cellsNeeded 8 refl n (omega arith)
 
-pub part-length : (n i : ℕ) (cells : List ℕ) → n ≤ 7 → i < n → 13699 ≤ length cells → length (part n i cells) ≡ cellCount n
+pub part-length : (n i : ℕ) (cells : List ℕ) → n ≤ 7 → i < n → cellsNeeded ≤ length cells → length (part n i cells) ≡ cellCount n
 unfolding part
 part-length n i cells l b room =
     let c = cellCount n in
@@ -183,7 +184,7 @@ part-length n i cells l b room =
     length-take-le c (drop (i * c) cells) (omega (arith, length-drop (i * c) cells, parts-most n l))
 
 -- The session that an accepted sheet plays is sound.
-pub sheet-sound : (text cells : List ℕ) → reading text .answer .number ≡ 0 → 13699 ≤ length cells → Sound (setting (reading text .head) cells)
+pub sheet-sound : (text cells : List ℕ) → reading text .answer .number ≡ 0 → cellsNeeded ≤ length cells → Sound (setting (reading text .head) cells)
 unfolding setting keeper
 sheet-sound text cells e room =
     let h = reading text .head in

@@ -22,12 +22,14 @@ use Rattle.tree.specs.Cells.{cellAt}
 use Rattle.tree.proofs.Labels.{label-dealer, root-has}
 use Rattle.theory.specs.Tree as T
 use Rattle.protocol.specs.declared.records.Record.{Record}
-use Rattle.protocol.specs.Nodes.{default, read, internal, inner, sent, due}
+use Rattle.plan.specs.Values.{default}
+use Rattle.protocol.specs.Nodes.{read, internal, inner, sent, due}
 use Rattle.theory.specs.Runs.{Flow}
 use Rattle.theory.specs.Tree.{root, child}
 use Rattle.theory.proofs.Uniform.{uniform, healthy-node}
 use Rattle.protocol.proofs.Converting.{Minds, levels-sound}
 use Rattle.protocol.specs.Detection.{Scan, byResolving, resolveRoot, detectLevels}
+use Rattle.protocol.specs.Records.{runEnded}
 use Rattle.protocol.specs.Rounds.{rootOnly, nextRound, convert, Board, gather}
 use Rattle.protocol.specs.Session.{Adversary, Setting, at}
 use Rattle.protocol.specs.Calls.{freshRecord}
@@ -312,7 +314,7 @@ module _ (s : Setting) (a : Adversary) (sound : Sound s) where
 
       -- Its list holds faulty boards only.
       pub lists-next : T.Sub (plan .n) (listOf (at s a (suc j) i .rec .detected)) (listOf F)
-      unfolding nextRound convert
+      unfolding nextRound convert runEnded
       lists-next =
           cases (ltb (open-round j) (rounds plan .0))
           (λ e. subst (λ b. T.Sub (plan .n) (listOf (b .rec .detected)) (listOf F)) (sym (within-run (ltb-true (open-round j) (rounds plan .0) e)))
@@ -326,7 +328,7 @@ module _ (s : Setting) (a : Adversary) (sound : Sound s) where
 
     -- The invariant after the step.
     pub inv-next : suc j < steps plan → Inv (suc j)
-    unfolding nextRound convert
+    unfolding nextRound convert runEnded
     inv-next more = record {
       lists = λ i ki. lists-next i ki;
       deliver = λ i q e α ki kq m out h.

@@ -23,6 +23,7 @@ use Rattle.plan.proofs.Steps.{Has, run-split, run-of-step, round-of-step, step-
 use Rattle.tree.specs.Places.{cellCount}
 use Rattle.tree.specs.Cells.{blank}
 use Rattle.protocol.specs.declared.records.Record.{Record}
+use Rattle.protocol.specs.Records.{runEnded}
 use Rattle.protocol.specs.Rounds.{Board, gather, nextRound, convert, close}
 use Rattle.protocol.specs.Calls.{judgeBoard, judgeBeginning, freshRecord, beginning, closing}
 use Rattle.protocol.specs.Session.{table, Adversary, Setting, Boards, nobody, boardAt, begun, hears, handIn, hearAll, session, at}
@@ -31,7 +32,8 @@ use Rattle.protocol.proofs.Judgement.{Good, Open, open-taken, board-tak
 use Rattle.protocol.proofs.Reached.{closing-taken, fresh-good, close-good, close-length}
 use Rattle.plan.proofs.Outcomes.{taken-first}
 use Rattle.plan.proofs.Levels.{rounds-pos, runs-pos}
-use Rattle.protocol.proofs.Hearing.{withTaken, hear, marks, heardCells, heard-open, hear-shape}
+use Rattle.protocol.specs.Records.{withTaken}
+use Rattle.protocol.proofs.Hearing.{hear, marks, heardCells, heard-open, hear-shape}
 use Rattle.protocol.specs.Detection.{detectLevels}
 
 pub table-at : {A : Type 0} (f : ℕ → A) (k i c : ℕ) (x : A) → c < k → getD (table f i k) c x ≡ f (i + c)
@@ -238,7 +240,7 @@ module _ (s : Setting) (a : Adversary) (sound : Sound s) where
         (λ e. let ne : stepRun plan (suc j) .0 ≢ runs plan .0 = eqb-false (stepRun plan (suc j) .0) (runs plan .0) e in omega (arith, position .run-high))
 
     pub next-shape : suc j < steps plan → close ready .rec ≡ canon i (suc j) (close ready .rec .detected)
-    unfolding nextRound convert record-of
+    unfolding nextRound convert runEnded record-of
     next-shape l =
         let t = stepRun plan (suc j) in
         let q = stepRound plan (suc j) in

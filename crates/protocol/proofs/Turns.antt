@@ -11,25 +11,26 @@ use Rattle.plan.specs.Schedule.{runs}
 use Rattle.protocol.specs.declared.records.Record.{Record}
 use Rattle.protocol.specs.Nodes.{sent, due}
 use Rattle.protocol.specs.Detection.{Scan, resolveRoot}
+use Rattle.protocol.specs.Records.{runEnded}
 use Rattle.protocol.specs.Rounds.{Board, fill, counted, receive, fillMissing, convert}
 
 -- A frame that is taken goes to the children of its sender.
 pub frame-stored : (q : ℕ) (f : List ℕ) (b : Board)
-    → let r = b .rec in let αs = sent (r .plan) q (r .board) (r .round) in receive q f b .cells ≡ fill (r .plan) q αs (counted r q αs f) (b .cells)
+    → let r = b .rec in let αs = sent (r .plan) q (r .board) (r .round) in receive q f b .cells ≡ fill (r .plan) q αs (counted (r .detected) q αs f) (b .cells)
 unfolding receive
 frame-stored q f b = refl
 
 -- A frame that was taken stays as it is.
-pub taken-stays : (r : Record) (k : ℕ) (cells : List ℕ) → member k (r .taken) ≡ true → fillMissing r (suc k) cells ≡ fillMissing r k cells
+pub taken-stays : (r : Record) (k : ℕ) (cells : List ℕ) → member k (r .taken) ≡ true → fillMissing (r .plan) (r .board) (r .round) (r .taken) (suc k) cells ≡ fillMissing (r .plan) (r .board) (r .round) (r .taken) k cells
 unfolding fillMissing
 taken-stays r k cells m = cases (due (r .plan) k (r .board) (r .round)) (λ d. rw (d, m) refl) (λ d. rw d refl)
 
 module _ (r : Record) (s : Scan) where
   -- A board decides as the last run ends, and on the root.
   pub decides-last : convert r s .rec .decided ≡ eqb (r .run .0) (runs (r .plan) .0)
-  unfolding convert
+  unfolding convert runEnded
   decides-last = refl
 
   pub decides-root : eqb (r .run .0) (runs (r .plan) .0) ≡ true → convert r s .rec .decision ≡ resolveRoot (r .plan) (r .board) (s .cells)
-  unfolding convert
+  unfolding convert runEnded
   decides-root e = rw e refl

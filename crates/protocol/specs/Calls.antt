@@ -13,6 +13,7 @@ use Rattle.plan.specs.Calls.{andThen, judged, voidPlan}
 use Rattle.tree.specs.Places.{cellCount}
 use Rattle.tree.specs.Cells.{blank}
 use Rattle.protocol.specs.declared.records.Record.{Record}
+use Rattle.protocol.specs.Records.{standingAt}
 use Rattle.protocol.specs.Nodes.{due, frame}
 use Rattle.protocol.specs.Rounds.{Board, receive, close}
 
@@ -62,16 +63,7 @@ judgeOpen b =
 
 -- The record of a board that begins: run 1, round 1, nothing listed or marked.
 unfoldable pub freshRecord : Plan → ℕ → Record
-freshRecord p i = record {
-  plan = p;
-  board = i;
-  run = record { 0 = 1 };
-  round = record { 0 = 1 };
-  detected = 0;
-  taken = 0;
-  decided = false;
-  decision = 0;
-}
+freshRecord p i = standingAt p i (record { 0 = 1 }) (record { 0 = 1 }) 0
 
 -- The record beside a refused beginning: everything 0, so that every call on it is number 12.
 unfoldable pub voidRecord : Record

@@ -7,6 +7,7 @@ use lib.ListN.{length, getD, replicate}
 use Rattle.plan.specs.declared.plan.Plan.{Plan}
 use Rattle.plan.specs.Schedule.{height, rounds, runs, steps}
 use Rattle.plan.specs.Calls.{admitting, planning, planned}
+use Rattle.protocol.specs.Limits.{outputNeeded, cellsNeeded}
 use Rattle.protocol.specs.Nodes.{nodes}
 use Rattle.protocol.specs.Calls.{beginning, receiving}
 use Rattle.protocol.specs.Playing.{Play, playing, benchPrints}
@@ -41,32 +42,32 @@ nodeCount p (suc k) = nodeCount p k + length (nodes p 0 (suc k))
 
 -- Lent buffers with a mark in every byte, to see what is touched.
 unfoldable pub lentCells : List ℕ
-lentCells = replicate 13699 7
+lentCells = replicate cellsNeeded 7
 
 unfoldable pub lentOut : List ℕ
-lentOut = replicate 49 9
+lentOut = replicate outputNeeded 9
 
 unfoldable pub played : Play → List ℕ → List ℕ → Bool
 played r text cells =
     (eqb (r .answer .number) 0 && sameList (r .answer .values) (length text ∷ []))
-    && (sameList (r .out) (text ++ replicate (49 - length text) 9) && sameList (r .cells) (cells ++ replicate (13699 - length cells) 7))
+    && (sameList (r .out) (text ++ replicate (outputNeeded - length text) 9) && sameList (r .cells) (cells ++ replicate (cellsNeeded - length cells) 7))
 
 -- Is the plan with span 16 accepted?
 unfoldable pub isAccepted : ℕ → List ℕ → ℕ → ℕ → Bool
-isAccepted n sets d b = eqb (planning n (length sets) sets d 16 b .number) 0
+isAccepted n sets d b = eqb (planning n (length sets) sets (record { dealer = d; span = 16; depth = b }) .number) 0
 
 -- Does a row hold?
 unfoldable pub holds : Row → Bool
 holds (admit n sets k vs) = let o = admitting n (length sets) sets in eqb (o .number) k && sameList (o .values) vs
-holds (refuse n sets d m b k) = eqb (planning n (length sets) sets d m b .number) k
+holds (refuse n sets d m b k) = eqb (planning n (length sets) sets (record { dealer = d; span = m; depth = b }) .number) k
 holds (schedule n sets d b h t j) =
-    let p = planned n sets d 16 b in
+    let p = planned n sets (record { dealer = d; span = 16; depth = b }) in
     (isAccepted n sets d b && eqb (height p) h) && (eqb (runs p .0) t && eqb (steps p) j)
-holds (tree n sets d k) = let p = planned n sets d 16 0 in isAccepted n sets d 0 && eqb (nodeCount p (rounds p .0)) k
+holds (tree n sets d k) = let p = planned n sets (record { dealer = d; span = 16; depth = 0 }) in isAccepted n sets d 0 && eqb (nodeCount p (rounds p .0)) k
 holds (sheet text out cells) = let r = playing text lentCells lentOut in played r out cells
 holds (refusedSheet text line) = sameList (benchPrints text lentCells lentOut) line
 holds (stored m v x) =
-    let p = planned 4 (1 ∷ 2 ∷ 4 ∷ 8 ∷ []) 0 m 0 in
+    let p = planned 4 (1 ∷ 2 ∷ 4 ∷ 8 ∷ []) (record { dealer = 0; span = m; depth = 0 }) in
     let b = beginning p 1 (replicate 16 9) .board in
     let r = receiving b 0 (v ∷ []) in
     eqb (r .answer .number) 0 && eqb (getD (r .board .cells) 0 blank) x

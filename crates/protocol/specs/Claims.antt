@@ -6,7 +6,7 @@ use mathlib.Core.Bool.{true, false}
 use lib.ListN.{getD}
 use Rattle.sets.specs.Search.{count}
 use Rattle.sets.specs.Sets.{member, within}
-use Rattle.plan.specs.Schedule.{isCut, rounds, runs, steps, step}
+use Rattle.plan.specs.Schedule.{depthOf, isCut, rounds, runs, steps, step}
 use Rattle.tree.specs.Cells.{blank}
 use Rattle.protocol.specs.Rounds.{Board}
 use Rattle.protocol.specs.Session.{Adversary, Setting, at}
@@ -39,7 +39,7 @@ pub record SessionAgreement (s : Setting) (a : Adversary) : Type 0 where
       → (i : ℕ) → keeper s i ≡ true → rootAfter s a u i ≡ v
   -- if roots after run t of a cut tree are unequal, at least t × (b − 3) + 1 boards stand on all these lists
   pub bound : isCut (s .plan) ≡ true → (t : ℕ) → 1 ≤ t → t ≤ runs (s .plan) .0 → (i k : ℕ) → keeper s i ≡ true → keeper s k ≡ true
-      → rootAfter s a t i ≢ rootAfter s a t k → t * (s .plan .depth - 3) + 1 ≤ count (onEvery s (listEnded s a t)) (s .plan .n)
+      → rootAfter s a t i ≢ rootAfter s a t k → t * (depthOf (s .plan) - 3) + 1 ≤ count (onEvery s (listEnded s a t)) (s .plan .n)
 
 -- Agreement of the synchronous session.
 abbrev pub Synchronous : Type 0

@@ -13,7 +13,8 @@ use Rattle.plan.specs.declared.plan.Plan.{Plan}
 use Rattle.plan.specs.Schedule.{listed, rounds}
 use Rattle.tree.specs.Labels.{Label, occurs, last}
 use Rattle.tree.specs.Cells.{store}
-use Rattle.protocol.specs.Nodes.{default, read, internal, nodes, inner}
+use Rattle.plan.specs.Values.{default}
+use Rattle.protocol.specs.Nodes.{read, internal, nodes, inner}
 
 -- 01: "the only value v below m for which the children resolved to v form a set that is not tolerated"; f has what each child
 -- of α is worth: a value, or none.

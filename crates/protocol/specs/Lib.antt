@@ -1,4 +1,6 @@
+pub mod Limits
 pub mod Answers
+pub mod Records
 pub mod Nodes
 pub mod Detection
 pub mod Rounds

@@ -9,7 +9,7 @@ use lib.ListN.{length, getD, take}
 use Rattle.sets.specs.Search.{any, count}
 use Rattle.sets.specs.Sets.{member, within}
 use Rattle.sets.specs.Structure.{tolerated}
-use Rattle.plan.specs.Schedule.{listed, isCut, rounds, steps}
+use Rattle.plan.specs.Schedule.{depthOf, listed, isCut, rounds, steps}
 use Rattle.plan.specs.Outcome.{Outcome, taken}
 use Rattle.plan.specs.Calls.{judged}
 use Rattle.tree.specs.Places.{cellCount}
@@ -34,8 +34,9 @@ caller (closes i) = i
 caller (decides i) = i
 
 -- What a call does to its board, and what it answers: literally the definitions of the calls, which stand in the `ensures` of the public
--- functions of the crate `board`: `receiving` of receiving::receive, `sending` of sending::send, `closing` of closing::close, `deciding` of
--- deciding::decide. A board begins by `beginning` (beginning::begin), and the dealer's frame is `dealing` (dealing::deal).
+-- functions: `receiving` of exchange::receiving::receive, `sending` of exchange::sending::send, `closing` of closing::closing::close,
+-- `deciding` of closing::deciding::decide. A board begins by `beginning` (beginning::beginning::begin), and the dealer's frame is `dealing`
+-- (beginning::dealing::deal).
 unfoldable pub leaves : Call → Board → Board
 leaves (receives i q f) b = receiving b q f .board
 leaves (sends i out) b = b
@@ -206,11 +207,11 @@ pub record Agreement (s : Setting) (calls : List Call) : Type 0 where
   -- boards stand on every one of their lists, as those closings left them."
   pub bound : isCut (s .plan) ≡ true → (t : ℕ) (before : ℕ → List Call) → ((i : ℕ) → keeper s i ≡ true → EndsRun s t i (before i) calls)
       → (i j : ℕ) → keeper s i ≡ true → keeper s j ≡ true → root s i (before i) ≢ root s j (before j)
-      → t * (s .plan .depth - 3) + 1 ≤ count (onEvery s (λ i. list s i (before i))) (s .plan .n)
+      → t * (depthOf (s .plan) - 3) + 1 ≤ count (onEvery s (λ i. list s i (before i))) (s .plan .n)
   -- The user: after the whole list, "at least t × (b − 3) + 1 boards stand on every one of their lists", as they are then
   pub bound-now : isCut (s .plan) ≡ true → (t : ℕ) (before : ℕ → List Call) → ((i : ℕ) → keeper s i ≡ true → EndsRun s t i (before i) calls)
       → (i j : ℕ) → keeper s i ≡ true → keeper s j ≡ true → root s i (before i) ≢ root s j (before j)
-      → t * (s .plan .depth - 3) + 1 ≤ count (onEvery s (listAfter s calls)) (s .plan .n)
+      → t * (depthOf (s .plan) - 3) + 1 ≤ count (onEvery s (listAfter s calls)) (s .plan .n)
 
 -- Demand 3.
 abbrev pub Demand3 : Type 0

@@ -1,4 +1,4 @@
--- Values, nodes, and what a board sends in a round.
+-- Nodes, and what a board sends in a round.
 use Prim.Native.Nat.{ℕ, zero, suc, _-_}
 use mathlib.Core.Bool.{Bool, not, _&&_, cond}
 use mathlib.Core.List.{List, [], _∷_, map}
@@ -8,16 +8,9 @@ use Rattle.sets.specs.Structure.{tolerated}
 use Rattle.plan.specs.declared.plan.Plan.{Plan}
 use Rattle.plan.specs.declared.schedule.Round.{Round}
 use Rattle.plan.specs.Schedule.{listed, rounds}
+use Rattle.plan.specs.Values.{value}
 use Rattle.tree.specs.Labels.{Label, occurs, mask, childrenOf}
 use Rattle.tree.specs.Cells.{cellAt}
-
--- What stands in for a value that is missing or masked. 01: 0.
-unfoldable pub default : Plan → ℕ
-default p = 0
-
--- 01: "A cell of m or more, read as a value, counts as 0."
-unfoldable pub value : Plan → ℕ → ℕ
-value p x = cond (ltb x (p .span)) x (default p)
 
 -- The value of a label's cell.
 unfoldable pub read : Plan → List ℕ → Label → ℕ
@@ -42,12 +35,14 @@ nodes p i (suc (suc k)) = childrenOf (p .n) (filter (internal p i) (nodes p i (s
 unfoldable pub inner : Plan → ℕ → ℕ → List Label
 inner p i k = filter (internal p i) (nodes p i k)
 
+-- 01: "the cells of all internal nodes of level k − 1 without q, in cell order": those of level k, for board i.
+unfoldable pub carried : Plan → ℕ → ℕ → ℕ → List Label
+carried p q i k = filter (λ α. not (occurs q α)) (inner p i k)
+
 -- 01: "In round k > 1 board q sends each other board that keeps cells the cells of all internal nodes of level k − 1 without q,
 -- in cell order". In round 1 the dealer sends one value, for the empty label, whose child by the dealer is the root.
 unfoldable pub sent : Plan → ℕ → ℕ → Round → List Label
-sent p q i k =
-    let later = filter (λ α. not (occurs q α)) (inner p i (k .0 - 1)) in
-    cond (eqb (k .0) 1) (cond (eqb q (p .dealer)) ([] ∷ []) []) later
+sent p q i k = cond (eqb (k .0) 1) (cond (eqb q (p .dealer)) ([] ∷ []) []) (carried p q i (k .0 - 1))
 
 -- 01: "A frame is due only if it holds at least one byte." From board q to board i, which keeps cells, in round k.
 unfoldable pub due : Plan → ℕ → ℕ → Round → Bool

@@ -11,6 +11,7 @@ use Rattle.plan.specs.declared.schedule.Round.{Round}
 use Rattle.plan.specs.Schedule.{steps, stepRun, stepRound}
 use Rattle.plan.specs.Outcome.{Outcome, taken, refused}
 use Rattle.tree.specs.Places.{cellCount}
+use Rattle.protocol.specs.Limits.{sheetMost, outputNeeded, cellsNeeded}
 use Rattle.protocol.specs.Session.{Adversary, Setting, Boards, boardAt, session}
 use Rattle.protocol.specs.Sheet.{Head, Frame, headPlan, wrongAt, reading}
 
@@ -91,9 +92,9 @@ unfoldable pub playing : List ℕ → List ℕ → List ℕ → Play
 playing text cells out =
     let r = reading text in
     let accepted = playHead (r .head) (r .frames) cells out in
-    cond (ltb 65536 (length text)) (refusedPlay (wrongAt 0 (refused 20)) cells out)
-    (cond (ltb (length out) 49) (refusedPlay (wrongAt 0 (refused 17)) cells out)
-    (cond (ltb (length cells) 13699) (refusedPlay (wrongAt 0 (refused 11)) cells out)
+    cond (ltb sheetMost (length text)) (refusedPlay (wrongAt 0 (refused 20)) cells out)
+    (cond (ltb (length out) outputNeeded) (refusedPlay (wrongAt 0 (refused 17)) cells out)
+    (cond (ltb (length cells) cellsNeeded) (refusedPlay (wrongAt 0 (refused 11)) cells out)
     (cond (eqb (r .answer .number) 0) accepted (refusedPlay (r .answer) cells out))))
 
 -- 01: "If turned down it prints only FF, the number as one byte (24 is 18), and the line in two bytes", and a newline.

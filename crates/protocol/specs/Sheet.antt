@@ -8,6 +8,7 @@ use lib.ListN.{length, getD, take, drop}
 use Rattle.sets.specs.Sets.{member, within, boards}
 use Rattle.sets.specs.Structure.{tolerated}
 use Rattle.plan.specs.declared.plan.Plan.{Plan}
+use Rattle.plan.specs.declared.plan.Settings.{Settings}
 use Rattle.plan.specs.declared.schedule.Run.{Run}
 use Rattle.plan.specs.declared.schedule.Round.{Round}
 use Rattle.plan.specs.Schedule.{hasRound}
@@ -77,8 +78,12 @@ headOf bytes =
       faulty = getD bytes (6 + s) 0;
     }
 
+-- The settings that it names.
+abbrev pub headSettings : Head → Settings
+headSettings h = record { dealer = h .dealer; span = h .span; depth = h .depth }
+
 unfoldable pub headPlan : Head → Plan
-headPlan h = planned (h .n) (h .sets) (h .dealer) (h .span) (h .depth)
+headPlan h = planned (h .n) (h .sets) (headSettings h)
 
 -- 01, 'Playing a sheet', head: 22; 1 to 8; 18; 23.
 unfoldable pub judgeHead : List ℕ → Outcome
@@ -87,7 +92,7 @@ judgeHead bytes =
     let word = cond (leb (h .span) (h .word)) (refused 18) (taken []) in
     let faulty = cond (within (h .faulty) (boards (h .n)) && tolerated (h .sets) (h .faulty)) (taken []) (refused 23) in
     cond (ltb (length bytes) 7 || not (eqb (length bytes) (7 + h .count))) (refused 22)
-    (andThen (planning (h .n) (h .count) (h .sets) (h .dealer) (h .span) (h .depth)) (andThen word faulty))
+    (andThen (planning (h .n) (h .count) (h .sets) (headSettings h)) (andThen word faulty))
 
 -- 01: "Then one frame a line: run, round, sender, receiver, values".
 pub record Frame : Type 0 where

@@ -4,12 +4,10 @@ use Prim.Native.Nat.{ℕ, _+_, _≤_}
 use mathlib.Core.Path.{_≡_, ap}
 use mathlib.Core.Bool.{true, false, not}
 use native.Mathlib.Numerals.{add-one}
-use borrow.Author.Tests.{eq-eqb, ne-eqb}
 use Rattle.sets.specs.Sets.{member}
 use Rattle.sets.proofs.Count.{count-in, count-out, count-zero, count-le, count-same}
 use Rattle.tree.specs.Labels.{Label, occurs, mask}
 use Rattle.tree.specs.Places.{ordinal, outsideBelow}
-use Rattle.tree.specs.Outside.{isOutside}
 use Rattle.tree.proofs.Masks.{mask-member}
 
 pub outside-zero : (s : ℕ) → outsideBelow s 0 ≡ 0
@@ -28,18 +26,6 @@ outside-more s i e = rw (add-one i) (count-in (λ i. not (member i s)) i (rw e))
 pub outside-skip : (s i : ℕ) → member i s ≡ true → outsideBelow s (i + 1) ≡ outsideBelow s i
 unfolding outsideBelow
 outside-skip s i e = rw (add-one i) (count-out (λ i. not (member i s)) i (rw e))
-
-pub is-outside : (s r q : ℕ) → member q s ≡ false → outsideBelow s q ≡ r → isOutside s r q ≡ true
-unfolding isOutside
-is-outside s r q e o = rw e (eq-eqb (outsideBelow s q) r o)
-
-pub inside : (s r q : ℕ) → member q s ≡ true → isOutside s r q ≡ false
-unfolding isOutside
-inside s r q e = rw e
-
-pub other-outside : (s r q : ℕ) → member q s ≡ false → (outsideBelow s q ≡ r → ⊥) → isOutside s r q ≡ false
-unfolding isOutside
-other-outside s r q e o = rw e (ne-eqb (outsideBelow s q) r o)
 
 -- Among the children of a label, the boards outside its mask are numbered.
 pub ordinal-outside : (q : ℕ) (α : Label) → outsideBelow (mask α) q ≡ ordinal q α

@@ -11,5 +11,5 @@ pub mod Cells
 pub mod Within
 pub mod Boards
 pub mod Descent
-pub mod Limits
 pub mod ChildIndex
+pub mod NodePlaces

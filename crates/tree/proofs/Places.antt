@@ -1,15 +1,15 @@
 -- Every label has a place of its own among the cells.
 -- Assumes nothing.
 use Prim.Native.Nat.{ℕ, suc, _+_, _≤_, _<_}
-use mathlib.Core.Path.{_≡_, subst}
-use mathlib.Core.List.{List·Memᴰ}
+use mathlib.Core.Path.{_≡_, refl, subst}
+use mathlib.Core.List.{[], _∷_, List·Memᴰ}
 use native.Mathlib.Omega.{arith}
 use lib.Dec.{ltb, leb}
 use borrow.Author.Tests.{ltb-true, ltb-false, leb-true, leb-false}
 use Rattle.sets.proofs.Tests.{cases}
 use Rattle.tree.specs.Labels.{Label, labels}
-use Rattle.tree.specs.Places.{levelStart, cellCount, rank, place}
-use Rattle.tree.proofs.Labels.{label-length}
+use Rattle.tree.specs.Places.{levelSize, levelStart, cellCount, rank, place}
+use Rattle.tree.proofs.Labels.{label-length, root-has}
 use Rattle.tree.proofs.Sizes.{size-past, start-suc, start-mono, start-le}
 use Rattle.tree.proofs.Ranks.{rank-lt, rank-injective}
 
@@ -30,6 +30,14 @@ label-level n d k α l m =
 
 pub place-lt : (n d k : ℕ) (α : Label) → d < n → List·Memᴰ α (labels n d k) → place n α < cellCount n
 place-lt n d k α l m = omega (arith, place-inside n d k α l m .1, start-le n (suc k) (omega arith))
+
+-- The root's cell is the first.
+pub root-place : (n d : ℕ) → place n (d ∷ []) ≡ 0
+unfolding place levelStart levelSize rank
+root-place n d = refl
+
+pub some-cell : (n d : ℕ) → d < n → 0 < cellCount n
+some-cell n d l = omega (arith, place-lt n d 1 (d ∷ []) l (root-has n d))
 
 -- The places of a level stand before those of every later level.
 pub place-levels : (n d a b : ℕ) (α β : Label) → d < n → List·Memᴰ α (labels n d a) → List·Memᴰ β (labels n d b) → a < b → place n α < place n β

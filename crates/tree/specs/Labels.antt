@@ -1,9 +1,9 @@
 -- Labels of nodes. 01: "A node is a list of different boards that starts with d. Its level is its length."
 -- A label is kept with its LAST board first: q ∷ α is child q of α, and the dealer stands at the end.
 use Prim.Native.Nat.{ℕ, zero, suc}
-use mathlib.Core.Bool.{Bool, false, _&&_, _||_, cond}
+use mathlib.Core.Bool.{Bool, false, _||_, cond}
 use mathlib.Core.List.{List, [], _∷_, _++_}
-use lib.Dec.{eqb, leb, ltb}
+use lib.Dec.{eqb}
 use lib.ListN.{getD}
 use Rattle.sets.specs.Sets.{insert}
 
@@ -47,7 +47,3 @@ labels n d (suc (suc k)) = childrenOf n (labels n d (suc k))
 -- Label number i, from 0, of level k; none, so [], at or past the level's size.
 unfoldable pub labelAt : ℕ → ℕ → ℕ → ℕ → Label
 labelAt n d k i = getD (labels n d k) i []
-
--- The same, and [] where n or the dealer is out of limits.
-unfoldable pub labelWithin : ℕ → ℕ → ℕ → ℕ → Label
-labelWithin n d k i = cond (leb 1 n && (leb n 7 && ltb d n)) (labelAt n d k i) []

@@ -1,4 +1,3 @@
 pub mod Labels
 pub mod Places
-pub mod Outside
 pub mod Cells

@@ -1,0 +1,59 @@
+-- The records that the calls make, one definition each.
+use Prim.Native.Nat.{ℕ, _+_}
+use mathlib.Core.Bool.{false, cond}
+use lib.Dec.{eqb}
+use Rattle.sets.specs.Sets.{insert}
+use Rattle.plan.specs.declared.plan.Plan.{Plan}
+use Rattle.plan.specs.declared.schedule.Run.{Run}
+use Rattle.plan.specs.declared.schedule.Round.{Round}
+use Rattle.plan.specs.Schedule.{runs}
+use Rattle.protocol.specs.declared.records.Record.{Record}
+
+-- A board that stands open in a run and a round, with a list, and nothing marked.
+abbrev pub standingAt : Plan → ℕ → Run → Round → ℕ → Record
+standingAt p i t k detected = record {
+  plan = p;
+  board = i;
+  run = t;
+  round = k;
+  detected = detected;
+  taken = 0;
+  decided = false;
+  decision = 0;
+}
+
+-- A record with other marks.
+abbrev pub withTaken : Record → ℕ → Record
+withTaken r t = record {
+  plan = r .plan;
+  board = r .board;
+  run = r .run;
+  round = r .round;
+  detected = r .detected;
+  taken = t;
+  decided = r .decided;
+  decision = r .decision;
+}
+
+-- A frame of board q was taken.
+abbrev pub marked : ℕ → Record → Record
+marked q r = withTaken r (insert q (r .taken))
+
+-- The next round of the same run.
+abbrev pub advanced : Record → ℕ → Record
+advanced r detected = standingAt (r .plan) (r .board) (r .run) (record { 0 = r .round .0 + 1 }) detected
+
+-- 01: "L stays. Then comes round 2 of the next run, or the decision, which is the root."
+unfoldable pub runEnded : Record → ℕ → ℕ → Record
+runEnded r detected root =
+    let last = eqb (r .run .0) (runs (r .plan) .0) in
+    record {
+      plan = r .plan;
+      board = r .board;
+      run = record { 0 = cond last (r .run .0) (r .run .0 + 1) };
+      round = record { 0 = cond last (r .round .0) 2 };
+      detected = detected;
+      taken = 0;
+      decided = last;
+      decision = cond last root 0;
+    }
