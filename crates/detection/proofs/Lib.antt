@@ -1,5 +1,2 @@
-pub mod Seen
+pub mod Kids
 pub mod Masking
-pub mod Scanning
-pub mod Descending
-pub mod Level

@@ -1,9 +1,9 @@
 -- Masking a board's cells at the children of a list of labels is storing a frame of it that has no values.
 -- Assumes nothing.
-use Prim.Native.Nat.{ℕ, zero, suc, _+_, _≤_, _<_}
-use mathlib.Core.Path.{_≡_, refl, ap, _∙_}
+use Prim.Native.Nat.{ℕ, zero, suc, _+_, _-_, _≤_, _<_}
+use mathlib.Core.Path.{_≡_, refl, sym, ap, _∙_}
 use mathlib.Core.Logic.{_≢_}
-use mathlib.Core.Bool.{not, cond}
+use mathlib.Core.Bool.{true, false, not, cond}
 use mathlib.Core.List.{List, [], _∷_, _++_}
 use native.Mathlib.Omega.{arith}
 use lib.Dec.{eqb}
@@ -13,12 +13,13 @@ use Rattle.sets.proofs.Tests.{cases}
 use Rattle.plan.specs.declared.plan.Plan.{Plan}
 use Rattle.tree.specs.Labels.{Label, occurs, last, childrenFrom, children, childrenOf}
 use Rattle.tree.specs.Cells.{store}
-use Rattle.protocol.specs.declared.records.Record.{Record}
-use Rattle.protocol.specs.Nodes.{default, filter, nodes, inner}
-use Rattle.protocol.specs.Detection.{maskBoard}
+use Rattle.plan.specs.declared.schedule.Round.{Round}
+use Rattle.plan.specs.Values.{default}
+use Rattle.protocol.specs.Nodes.{filter, nodes, inner, carried, sent}
+use Rattle.protocol.specs.Detection.{byCell, join, passes, Scan, maskBoard, detect1}
 use Rattle.protocol.specs.Rounds.{fill}
-use Rattle.frames.specs.Nodes.{later}
-use Rattle.frames.proofs.Remaining.{level}
+use Rattle.frames.specs.Nodes.{Standing}
+use Rattle.frames.proofs.Listed.{sent-carried}
 
 module _ (p : Plan) (q : ℕ) where
   mask-append : (γs δs : List Label) (cells : List ℕ) → maskBoard p q (γs ++ δs) cells ≡ maskBoard p q δs (maskBoard p q γs cells)
@@ -85,10 +86,22 @@ next-nodes p i zero h = absurd (omega arith)
 next-nodes p i (suc k) h = refl
 
 -- At a node of the level before the round's: the cells of the round's level.
-pub mask-later : (r : Record) (q : ℕ) (α : Label) (cells : List ℕ) → q < r .plan .n → length α ≡ level r → 1 ≤ level r
-    → maskBoard (r .plan) q (nodes (r .plan) (r .board) (suc (length α))) cells ≡ fill (r .plan) q (later r q) [] cells
-unfolding later
-mask-later r q α cells l e h =
-    ap (λ k. maskBoard (r .plan) q (nodes (r .plan) (r .board) (suc k)) cells) e
-    ∙ ap (λ γs. maskBoard (r .plan) q γs cells) (next-nodes (r .plan) (r .board) (level r) h)
-    ∙ mask-fill (r .plan) q l (inner (r .plan) (r .board) (level r)) cells
+pub mask-sent : {p : Plan} {holders : List ℕ} {i : ℕ} {k : Round} → Standing p holders i k → 2 ≤ k .0 → (q : ℕ) (α : Label) (cells : List ℕ)
+    → q < p .n → length α ≡ k .0 - 1 → maskBoard p q (nodes p i (suc (length α))) cells ≡ fill p q (sent p q i k) [] cells
+unfolding carried
+mask-sent {p = p} {i = i} {k = k} s later q α cells l e =
+    ap (λ m. maskBoard p q (nodes p i (suc m)) cells) e
+    ∙ ap (λ γs. maskBoard p q γs cells) (next-nodes p i (k .0 - 1) (omega arith))
+    ∙ mask-fill p q l (inner p i (k .0 - 1)) cells
+    ∙ ap (λ αs. fill p q αs [] cells) (sym (sent-carried s later q))
+
+-- Rule G at a node.
+module _ (p : Plan) (i : ℕ) (α : Label) (s : Scan) where
+  pub detect-kept : passes p α (byCell p (s .cells) α) (s .detected) ≡ true → detect1 p i α s ≡ s
+  unfolding detect1
+  detect-kept e = rw e refl
+
+  pub detect-joined : passes p α (byCell p (s .cells) α) (s .detected) ≡ false
+      → detect1 p i α s ≡ record { detected = join (last α) (s .detected); cells = maskBoard p (last α) (nodes p i (suc (length α))) (s .cells) }
+  unfolding detect1
+  detect-joined e = rw e refl

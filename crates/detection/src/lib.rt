@@ -1,3 +1,2 @@
-// Resolving, and the rules by which a board detects faulty boards.
-pub mod fd1;
-pub mod resolving;
+// Rule G, by which a board detects faulty boards in a round.
+pub mod rule_g;

@@ -1,8 +1,5 @@
-pub mod Bounds
 pub mod Places
-pub mod Walk
-pub mod Remaining
 pub mod Strokes
-pub mod Sent
-pub mod Own
-pub mod Unreached
+pub mod Listed
+pub mod Due
+pub mod Standing

@@ -1,32 +1,59 @@
--- What the board's own functions ask of their inputs, and the nodes of a frame after round 1.
-use Prim.Native.Nat.{ℕ, _-_, _≤_, _<_}
+-- What the engine's functions ask of their inputs, and lists of nodes as numbers. A middle layer.
+use Prim.Native.Nat.{ℕ, _/_, _%_, _≤_, _<_}
 use mathlib.Core.Path.{_≡_}
-use mathlib.Core.Bool.{true, not, cond}
-use mathlib.Core.List.{List}
+use mathlib.Core.Logic.{_≢_}
+use mathlib.Core.Bool.{false, cond}
+use mathlib.Core.List.{List, map}
 use lib.Dec.{ltb}
 use lib.ListN.{length, getD}
+use Rattle.sets.specs.Holders.{holderTable}
 use Rattle.plan.specs.declared.plan.Plan.{Plan}
-use Rattle.tree.specs.Labels.{Label, occurs, mask, labelAt}
-use Rattle.tree.specs.Places.{levelSize, cellCount}
-use Rattle.protocol.specs.declared.records.Record.{Record}
-use Rattle.protocol.specs.Nodes.{default, value, filter, inner}
-use Rattle.protocol.specs.Calls.{goodRecord}
+use Rattle.plan.specs.declared.schedule.Round.{Round}
+use Rattle.plan.specs.Schedule.{listed, rounds}
+use Rattle.plan.specs.Values.{default, value}
+use Rattle.plan.specs.Calls.{judged}
+use Rattle.tree.specs.Labels.{Label, occurs, mask, last, labelAt}
+use Rattle.tree.specs.Places.{levelSize}
 
--- A good record, and cells that are long enough.
-abbrev pub Ready : Record → List ℕ → Type 0
-Ready r cells = (goodRecord r ≡ true) × (cellCount (r .plan .n) ≤ length cells)
+-- A board that keeps cells, in a round of an accepted plan, with the plan's table of holders.
+pub record Standing (p : Plan) (holders : List ℕ) (board : ℕ) (k : Round) : Type 0 where
+  pub accepted : judged p .number ≡ 0
+  pub some-board : 1 ≤ p .n
+  pub most-boards : p .n ≤ 7
+  pub few-sets : length (listed p) ≤ 255
+  pub dealer-below : p .dealer < p .n
+  pub board-below : board < p .n
+  pub other : board ≢ p .dealer
+  pub round-low : 1 ≤ k .0
+  pub round-high : k .0 ≤ rounds p .0
+  pub rounds-most : rounds p .0 ≤ p .n
+  pub table : holders ≡ holderTable (listed p)
 
--- Label number i of a level.
-abbrev pub node : Record → ℕ → ℕ → Label
-node r level i = labelAt (r .plan .n) (r .plan .dealer) level i
+-- The label that a node's number stands for: crate walk has a node's number in its level, its last board and its boards in one.
+abbrev pub nodeAt : Plan → ℕ → ℕ → Label
+nodeAt p level node = labelAt (p .n) (p .dealer) level (node / 1024)
 
--- The level has a label number i, and its boards are these.
-abbrev pub IsNode : Record → ℕ → ℕ → ℕ → Type 0
-IsNode r level i boards = (i < levelSize (r .plan .n) level) × (boards ≡ mask (node r level i))
+-- It stands for a label of the level.
+pub record IsNode (p : Plan) (level node : ℕ) : Type 0 where
+  pub inside : node / 1024 < levelSize (p .n) level
+  pub boards : node % 128 ≡ mask (nodeAt p level node)
+  pub end : node / 128 % 8 ≡ last (nodeAt p level node)
 
--- The nodes whose cells board q sends in the record's round, from round 2 on.
-unfoldable pub later : Record → ℕ → List Label
-later r q = filter (λ α. not (occurs q α)) (inner (r .plan) (r .board) (r .round .0 - 1))
+-- The labels of a list of nodes.
+unfoldable pub labelsOf : Plan → ℕ → List ℕ → List Label
+labelsOf p level nodes = map (nodeAt p level) nodes
+
+-- A list of nodes of a level, in a plan within its limits.
+pub record Nodes (p : Plan) (level : ℕ) (nodes : List ℕ) : Type 0 where
+  pub some-board : 1 ≤ p .n
+  pub most-boards : p .n ≤ 7
+  pub dealer-below : p .dealer < p .n
+  pub level-below : level < p .n
+  pub are : (j : ℕ) → j < length nodes → IsNode p level (getD nodes j 0)
+
+-- Board q is on none of them.
+abbrev pub Without : Plan → ℕ → ℕ → List ℕ → Type 0
+Without p level q nodes = (j : ℕ) → j < length nodes → occurs q (nodeAt p level (getD nodes j 0)) ≡ false
 
 -- Value number i of a frame; the default where it has none.
 unfoldable pub entry : Plan → List ℕ → ℕ → ℕ

@@ -1,38 +1,62 @@
-// Closing a round, first part: what was not handed in, and the board's own cells.
-use crate::frame::fill_frame;
-use crate::frame::fill_later;
-use crate::frame::is_due;
-use crate::frame::write_frame;
-use protocol::records::Record;
+// Closing a round after the first: what was not handed in, and the board's own cells.
+use crate::sending::write_at;
+use crate::storing::store_at;
+use plan::plan::Plan;
+use plan::schedule::Round;
 use sets::boards::has;
+use walk::nodes::carried_nodes;
 ghost use mathlib.Core.Path.{_≡_};
-ghost use Rattle.protocol.specs.Rounds.{fillMissing, copyOwn};
-ghost use Rattle.frames.specs.Nodes.{Ready};
+ghost use mathlib.Core.List.{[]};
+ghost use Prim.Native.Nat.{_≤_, _<_};
+ghost use lib.ListN.{length};
+ghost use Rattle.tree.specs.Places.{cellCount};
+ghost use Rattle.protocol.specs.Nodes.{sent};
+ghost use Rattle.protocol.specs.Rounds.{fill, fillMissing, copyOwn};
+ghost use Rattle.frames.specs.Nodes.{Standing};
+
+// The default is stored at every place that a frame of board q fills.
+pub fn silence(plan: Plan, holders: &[u8], board: u8, q: u8, round: Round, cells: &mut [u8])
+    requires { ⌜ Standing plan (now holders) board round × (2 ≤ round .0) × (q < plan .n) × (cellCount (plan .n) ≤ length (now cells)) ⌝ }
+    ensures { λ _. ⌜ now (cells .exit) ≡ fill plan q (sent plan q board round) [] (now (cells .entry)) ⌝ }
+{
+    let level = round.0 - 1;
+    let mut nodes = [0u32; 120];
+    let nothing = [0u8; 1];
+    let count = carried_nodes(plan, holders, board, q, level, &mut nodes);
+    store_at(plan, level, q, &nodes[0..count], &nothing[0..0], cells);
+}
 
 // Due frames not handed in are stored as the default.
-pub fn fill_missing(r: Record, cells: &mut [u8])
-    requires { ⌜ Ready r (now cells) ⌝ }
-    ensures { λ _. ⌜ now (cells .exit) ≡ fillMissing r (r .plan .n) (now (cells .entry)) ⌝ }
+pub fn fill_missing(
+    plan: Plan,
+    holders: &[u8],
+    board: u8,
+    round: Round,
+    taken: u8,
+    cells: &mut [u8],
+)
+    requires { ⌜ Standing plan (now holders) board round × (2 ≤ round .0) × (cellCount (plan .n) ≤ length (now cells)) ⌝ }
+    ensures { λ _. ⌜ now (cells .exit) ≡ fillMissing plan board round taken (plan .n) (now (cells .entry)) ⌝ }
 {
-    let n = r.plan.n;
-    let taken = r.taken;
-    let nothing = [0u8; 1];
+    let n = plan.n;
     let mut q: u8 = 0;
     while q < n {
-        if is_due(r, q) && !has(taken, q) {
-            fill_frame(r, q, &nothing[0..0], cells);
+        if q != board && !has(taken, q) {
+            silence(plan, holders, board, q, round, cells);
         }
         q += 1;
     }
 }
 
 // The board copies its own cells to its own children.
-pub fn copy_own(r: Record, cells: &mut [u8])
-    requires { ⌜ Ready r (now cells) ⌝ }
-    ensures { λ _. ⌜ now (cells .exit) ≡ copyOwn r (now (cells .entry)) ⌝ }
+pub fn copy_own(plan: Plan, holders: &[u8], board: u8, round: Round, cells: &mut [u8])
+    requires { ⌜ Standing plan (now holders) board round × (2 ≤ round .0) × (cellCount (plan .n) ≤ length (now cells)) ⌝ }
+    ensures { λ _. ⌜ now (cells .exit) ≡ copyOwn plan board round (now (cells .entry)) ⌝ }
 {
-    let mut own = [0u8; 720];
-    let board = r.board;
-    let k = write_frame(r, cells, &mut own[0..720]);
-    fill_later(r, board, &own[0..k], cells);
+    let level = round.0 - 1;
+    let mut nodes = [0u32; 120];
+    let mut own = [0u8; 120];
+    let count = carried_nodes(plan, holders, board, board, level, &mut nodes);
+    write_at(plan, level, &nodes[0..count], cells, &mut own);
+    store_at(plan, level, board, &nodes[0..count], &own[0..count], cells);
 }

@@ -1,75 +1,89 @@
--- `copy_own` meets its contract: a frame of at most 720 values is written, and then stored.
+-- `copy_own` meets its contract: the board's own frame is written, and stored at its own children.
 -- Assumes nothing.
-use Prim.Native.Nat.{_≤_}
-use mathlib.Core.List.{[], _++_}
+use Prim.Native.Nat.{_-_, _≤_}
+use mathlib.Core.Path.{_≡_, refl, sym, ap, _∙_}
+use mathlib.Core.List.{_++_, map}
 use native.Mathlib.Omega.{arith}
-use lib.ListN.{length, replicate, length-append}
+use lib.ListN.{length, take, drop, length-map}
 use borrow.Author.Needs.{needs}
-use Rattle.frames.proofs.Bounds.{bounds}
-use Rattle.frames.proofs.Remaining.{later-most}
-use Rattle.frames.proofs.Own.{own-copied}
+use Rattle.protocol.specs.Nodes.{read, carried}
+use Rattle.protocol.specs.Rounds.{fill, copyOwn}
+use Rattle.protocol.proofs.Few.{carried-few}
+use Rattle.frames.specs.Nodes.{labelsOf}
+use Rattle.frames.proofs.Listed.{carried-walkable, front-fits, front-few, front-nodes, front-without, front-labels, own-copied}
 use Rattle.frames.proofs.gathering.copy_own.Statement.{statement}
 use Rattle.frames.proofs.gathering.copy_own.Tie as tie
 
-sub-write-frame : tie.Need-sub-write-frame
-sub-write-frame c = search needs
+carried-nodes-requires : tie.Need-carried-nodes-requires
+carried-nodes-requires c κs =
+    let e = c .before .before .before .before in
+    carried-walkable (e .pre .0) (e .pre .1) (e .args .board) (e .pre .0 .board-below) _ refl
 
-part-own-start : tie.Need-part-own-start
-part-own-start c = search needs
+part-write-at-end : tie.Need-part-write-at-end
+part-write-at-end c =
+    let e = c .before .before .before .before .before .before .before in
+    let x = c .before .before .carried-nodes in
+    front-fits (e .pre .0) (e .pre .1) (e .args .board) (x .ensures) (e .pre .0 .board-below) (x .kept .1 .1 .1 .1 .1 .0)
 
-part-own-end : tie.Need-part-own-end
-part-own-end c = search needs
+write-at-requires : tie.Need-write-at-requires
+write-at-requires c κs =
+    let e = c .before .before .before .before .before .before .before .before .before .before in
+    let x = c .before .before .before .before .before .carried-nodes in
+    (front-nodes (e .pre .0) (e .pre .1) (e .args .board) (x .ensures), e .pre .2, front-few (e .pre .0) (e .pre .1) (e .args .board) (x .ensures) (e .pre .0 .board-below))
 
-write-frame-requires : tie.Need-write-frame-requires
-write-frame-requires c κs =
-    let a = c .before .before .before .args in
-    let w = c .before .before .before .pre in
-    (w, later-most a.r (a.r .board) (bounds a.r (w .0)))
+part-store-at-end : tie.Need-part-store-at-end
+part-store-at-end c =
+    let e = c .before .before .before .before .before .before .before .before .before .before .before .before .before in
+    let x = c .before .before .before .before .before .before .before .before .carried-nodes in
+    front-fits (e .pre .0) (e .pre .1) (e .args .board) (x .ensures) (e .pre .0 .board-below) (x .kept .1 .1 .1 .1 .1 .0)
 
-sub-fill-later : tie.Need-sub-fill-later
-sub-fill-later c = search needs
+part-store-at-end-2 : tie.Need-part-store-at-end-2
+part-store-at-end-2 c =
+    let e = c .before .before .before .before .before .before .before .before .before .before .before .before .before .before .before in
+    let x = c .before .before .before .before .before .before .before .before .before .before .carried-nodes in
+    let y = c .before .before .before .before .write-at in
+    let fits : x .result ≤ length (y .last .1 .1 .1 .1 .0) =
+    omega (arith, x .ensures .counted, carried-few (e .args .plan) (e .args .board) (e .args .board) (e .args .round .0 - 1) (e .pre .0 .dealer-below) (e .pre .0 .most-boards) (e .pre .0 .board-below), y .kept .1 .1 .1 .1 .0) in
+    fits
 
-part-fill-later-start : tie.Need-part-fill-later-start
-part-fill-later-start c = search needs
-
-part-fill-later-end : tie.Need-part-fill-later-end
-part-fill-later-end c =
-    let a = c .before .before .before .before .before .before .args in
-    let w = c .before .before .before .before .before .before .pre in
-    let x = c .before .before .write-frame in
-    let own = x .last .1 .1 .0 in
-    let h : x .result ≤ length (own ++ []) =
-    omega (arith, x .ensures .0, later-most a.r (a.r .board) (bounds a.r (w .0)), x .kept .1 .1 .0, length-append own []) in
-    h
-
-fill-later-requires : tie.Need-fill-later-requires
-fill-later-requires c κs =
-    let a = c .before .before .before .before .before .before .before .before .args in
-    let w = c .before .before .before .before .before .before .before .before .pre in
-    (w, bounds a.r (w .0) .board-below)
-
-same-length : tie.Need-same-length
-same-length c = search needs
+store-at-requires : tie.Need-store-at-requires
+store-at-requires c κs =
+    let e = c .before .before .before .before .before .before .before .before .before .before .before .before .before .before .before .before .before in
+    let x = c .before .before .before .before .before .before .before .before .before .before .before .before .carried-nodes in (
+      front-nodes (e .pre .0) (e .pre .1) (e .args .board) (x .ensures),
+      front-without (e .pre .0) (e .pre .1) (e .args .board) (x .ensures),
+      e .pre .0 .board-below,
+      e .pre .2,
+    )
 
 returns : tie.Need-returns
 returns c =
-    let a = c .before .before .before .before .before .before .before .before .before .before .before .args in
-    let w = c .before .before .before .before .before .before .before .before .before .before .before .pre in
-    let x = c .before .before .before .before .before .before .before .write-frame in
-    let y = c .before .before .fill-later in
-    own-copied a.r (a.cells .now) (replicate 720 0) (x .last .1 .1 .0) (y .last .1 .1 .1 .0) (x .result) (w .0) (x .ensures .0) (x .ensures .1) (y .ensures)
+    let e = c .before .before .before .before .before .before .before .before .before .before .before .before .before .before .before .before .before .before .before .before in
+    let a = e .args in
+    let x = c .before .before .before .before .before .before .before .before .before .before .before .before .before .before .before .carried-nodes in
+    let y = c .before .before .before .before .before .before .before .before .before .write-at in
+    c .before .before .store-at .ensures
+    ∙ own-copied (e .pre .0) (e .pre .1) (a.cells .now) (x .result) (take (x .result - 0) (x .last .1 .1 .1 .1 .1 .0)) (y .last .1 .1 .1 .1 .0) _ (x .ensures .counted)
+    (front-labels (e .pre .0) (e .pre .1) a.board (x .ensures)) (y .ensures)
 
 pub copy-own-spec : {M : Type 1} → statement M
 copy-own-spec =
     tie.close
     (tie.spec
-    sub-write-frame
-    part-own-start
-    part-own-end
-    write-frame-requires
-    sub-fill-later
-    part-fill-later-start
-    part-fill-later-end
-    fill-later-requires
-    same-length
+    (λ c. search needs)
+    (λ c. search needs)
+    carried-nodes-requires
+    (λ c. search needs)
+    (λ c. search needs)
+    part-write-at-end
+    (λ c. search needs)
+    write-at-requires
+    (λ c. search needs)
+    (λ c. search needs)
+    part-store-at-end
+    (λ c. search needs)
+    (λ c. search needs)
+    part-store-at-end-2
+    store-at-requires
+    (λ c. search needs)
     returns)

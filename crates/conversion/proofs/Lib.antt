@@ -1,0 +1,7 @@
+mod Under
+mod Settled
+pub mod Cells
+mod Resolved
+mod Steps
+mod RuleC
+mod Level

@@ -1,0 +1,112 @@
+-- Over the settled cells rule C is that of the protocol.
+-- Assumes nothing.
+use Prim.Native.Nat.{ℕ, zero, suc, _+_, _-_, _≤_, _<_}
+use mathlib.Core.Path.{_≡_, refl, sym, _∙_, ap, subst}
+use mathlib.Core.Bool.{true, false, _||_, cond}
+use mathlib.Core.List.{List, [], _∷_, List·Memᴰ, List·Memᴰ·head, List·Memᴰ·tail}
+use mathlib.Core.Option.{Option}
+use native.Mathlib.Omega.{arith}
+use lib.Dec.{ltb}
+use lib.ListN.{length, set}
+use borrow.Author.Tests.{ltb-true}
+use Rattle.sets.specs.Sets.{member}
+use Rattle.sets.specs.Structure.{tolerated}
+use Rattle.sets.proofs.Tests.{cases, and-l, and-r}
+use Rattle.plan.specs.declared.plan.Plan.{Plan}
+use Rattle.plan.specs.Calls.{judged}
+use Rattle.plan.specs.Schedule.{listed, rounds}
+use Rattle.tree.specs.Labels.{Label, occurs, mask, last}
+use Rattle.tree.specs.Places.{cellCount}
+use Rattle.tree.specs.Cells.{cellAt}
+use Rattle.tree.proofs.Labels.{label-below}
+use Rattle.tree.proofs.Masks.{mask-member}
+use Rattle.protocol.specs.Nodes.{internal, nodes, inner}
+use Rattle.protocol.specs.Detection.{byResolving, passes, join, detect2, detectAll2, detectLevels}
+use Rattle.protocol.proofs.Nodes.{no-node, node-root, inner-inv, node-inv, node-label, node-length}
+use Rattle.voting.specs.Worth.{worth, table}
+use Rattle.voting.specs.Tables.{explainedBy}
+use Rattle.voting.proofs.Laws.{explained-table}
+use Rattle.conversion.specs.Settled.{settledAll}
+use Rattle.conversion.specs.Contracts.{Convertible, Roots, Converts}
+use Rattle.conversion.specs.Reading.{standing, passesBy, detectBy, levelsBy}
+use Rattle.conversion.proofs.Cells.{root-labelled, all-length}
+use Rattle.conversion.proofs.Under.{Under, here, down, under-trans}
+use Rattle.conversion.proofs.Settled.{settled-done}
+use Rattle.conversion.proofs.Steps.{same-room}
+
+-- A node of level j, with k levels below it, is below the root.
+node-under : (p : Plan) (i j k : ℕ) (α : Label) → List·Memᴰ α (nodes p i j) → j + k ≡ rounds p .0 → Under p i (rounds p .0 - 1) (p .dealer ∷ []) k α
+node-under p i zero k α m e = absurd (no-node p i α m)
+node-under p i (suc zero) k α m e =
+    let z : rounds p .0 - 1 ≡ k = omega arith in
+    rw (node-root p i α m) (subst (λ x. Under p i (rounds p .0 - 1) (p .dealer ∷ []) x (p .dealer ∷ [])) z here)
+node-under p i (suc (suc j)) k α m e =
+    let (β, w, (q, x, l, a)) = node-inv p i j α m in
+    let (v, t) = inner-inv p i (suc j) β w in
+    rw x (under-trans (node-under p i (suc j) (suc k) β v (omega arith)) (down t l a here))
+
+-- The table looks only at what children are worth.
+table-worth : (f g : ℕ → Option ℕ) (s n : ℕ) → ((c : ℕ) → c < n → member c s ≡ false → worth (f c) ≡ worth (g c)) → table f s n ≡ table g s n
+unfolding table
+table-worth f g s zero h = refl
+table-worth f g s (suc k) h =
+    let ih = table-worth f g s k (λ c l e. h c (omega arith) e) in
+    cases (member k s)
+    (λ e. rw e ih)
+    (λ e. rw e (ap (λ t. set t k (worth (f k))) ih ∙ ap (λ x. set (table g s k) k x) (h k (omega arith) e)))
+
+module _ (p : Plan) (i : ℕ) (cells : List ℕ) where
+  module _ (ld : p .dealer < p .n) where
+    module _ (r : cellCount (p .n) ≤ length cells) where
+      -- The child of an internal node holds what it resolves to.
+      child-done : (k : ℕ) (α : Label) → List·Memᴰ α (inner p i k) → (c : ℕ) → c < p .n → occurs c α ≡ false
+          → cellAt (p .n) (settledAll p i cells) (c ∷ α) ≡ worth (byResolving p i cells α c)
+      unfolding settledAll byResolving internal
+      child-done k α m c l o =
+          let (v, t) = inner-inv p i k α m in
+          let e : length α ≡ k = node-length p i k α v in
+          let h : length α < rounds p .0 = ltb-true (length α) (rounds p .0) (and-r (tolerated (listed p) (mask α)) (ltb (length α) (rounds p .0)) t) in
+          let u = node-under p i k (suc (rounds p .0 - suc (length α))) α v (omega arith) in
+          settled-done p i ld (under-trans u (down t l o here)) (root-labelled p) cells r
+
+      module _ (good : judged p .number ≡ 0) (m : p .span ≤ 255) where
+        passes-same : (k : ℕ) (α : Label) (list : ℕ) → List·Memᴰ α (inner p i k)
+            → passesBy p (settledAll p i cells) α list ≡ passes p α (byResolving p i cells α) list
+        unfolding passesBy passes internal worth
+        passes-same k α list w =
+            let (v, t) = inner-inv p i k α w in
+            ap (λ x. member (last α) list || explainedBy p (mask α) x list)
+            (table-worth (standing (p .n) (settledAll p i cells) α) (byResolving p i cells α) (mask α) (p .n)
+            (λ c l o. child-done k α w c l (sym (mask-member c α) ∙ o)))
+            ∙ ap (λ x. member (last α) list || x)
+            (sym (explained-table p α (byResolving p i cells α) list good m (and-l (tolerated (listed p) (mask α)) (ltb (length α) (rounds p .0)) t)
+            (label-below (p .n) (p .dealer) k α ld (node-label p i k α v))))
+
+        detect-same : (k : ℕ) (αs : List Label) (list : ℕ) → ((α : Label) → List·Memᴰ α αs → List·Memᴰ α (inner p i k))
+            → detectBy p (settledAll p i cells) αs list ≡ detectAll2 p i cells αs list
+        unfolding detectBy detectAll2 detect2
+        detect-same k [] list h = refl
+        detect-same k (α ∷ αs) list h =
+            ap (λ b. detectBy p (settledAll p i cells) αs (cond b list (join (last α) list))) (passes-same k α list (h α (List·Memᴰ·head refl)))
+            ∙ detect-same k αs _ (λ β w. h β (List·Memᴰ·tail w))
+
+        pub levels-same : (k list : ℕ) → levelsBy p i (settledAll p i cells) k list ≡ detectLevels p i cells k list
+        unfolding levelsBy detectLevels
+        levels-same zero list = refl
+        levels-same (suc k) list =
+            levels-same k _ ∙ ap (detectLevels p i cells k) (detect-same (suc k) (inner p i (suc k)) list (λ α w. w))
+
+-- Converting: rule C runs on what resolving leaves.
+module _ {p : Plan} {holders : List ℕ} {i v : ℕ} {before after : List ℕ} (k : Convertible p holders i before) (f : Roots p i v before after) where
+  pub resolved-room : Convertible p holders i after
+  resolved-room = same-room k (ap length (f .cells-are) ∙ all-length p i before)
+
+  pub converts : {list found : ℕ} → found ≡ levelsBy p i after (rounds p .0 - 1) list → Converts p i list v found before after
+  converts {list} e = record {
+    root-is = f .root-is;
+    list-is =
+        e
+        ∙ ap (λ x. levelsBy p i x (rounds p .0 - 1) list) (f .cells-are)
+        ∙ levels-same p i before (k .dealer-below) (k .room) (k .accepted) (k .most-values) (rounds p .0 - 1) list;
+    cells-are = f .cells-are;
+  }

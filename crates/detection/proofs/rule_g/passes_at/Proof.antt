@@ -1,0 +1,62 @@
+-- `passes_at` meets its contract.
+-- Assumes nothing.
+use Prim.Native.Nat.{_%_}
+use mathlib.Core.Path.{_≡_, sym, subst, ap, ap₂, _∙_}
+use mathlib.Core.Bool.{false, _||_}
+use borrow.Author.Needs.{needs}
+use Rattle.sets.specs.Sets.{member}
+use Rattle.tree.specs.Labels.{last}
+use Rattle.protocol.specs.Detection.{explained, byCell, passes}
+use Rattle.voting.specs.Worth.{table}
+use Rattle.voting.specs.Tables.{explainedBy}
+use Rattle.frames.specs.Nodes.{nodeAt}
+use Rattle.detection.specs.Visits.{kid, Kids}
+use Rattle.detection.proofs.Kids.{kids-there, start-fits, explained-kids}
+use Rattle.detection.proofs.rule_g.passes_at.Statement.{statement}
+use Rattle.detection.proofs.rule_g.passes_at.Tie as tie
+
+returns : tie.Need-returns
+unfolding passes
+returns c =
+    let e = c .before .before .before .before .before in
+    sym (ap (λ b. b || explained (e .args .plan) (nodeAt (e .args .plan) (e .args .level) (e .args .node)) (byCell (e .args .plan) (e .args .cells .now) (nodeAt (e .args .plan) (e .args .level) (e .args .node))) (e .args .list))
+    (ap (λ q. member q (e .args .list)) (sym (c .before .before .last-of .ensures ∙ e .pre .is-node .end)) ∙ sym (c .before .has .ensures) ∙ c .if1 .taken))
+
+first-child-requires : tie.Need-first-child-requires
+first-child-requires c κs = let e = c .before .before .before .before .before .before in (e .pre .level-below, start-fits (e .pre))
+
+child-values-requires : tie.Need-child-values-requires
+child-values-requires c κs =
+    let e = c .before .before .before .before .before .before .before in (
+      e .pre .tabled .most-boards,
+      subst (λ s. Kids (e .args .plan) s (c .first-child .result) (e .args .cells .now)) (sym (c .before .boards-of .ensures))
+          (subst (λ k. Kids (e .args .plan) (e .args .node % 128) k (e .args .cells .now)) (sym (c .first-child .ensures)) (kids-there (e .pre))),
+    )
+
+returns-2 : tie.Need-returns-2
+unfolding passes
+returns-2 c =
+    let e = c .before .before .before .before .before .before .before .before .before in
+    let a = e .args in
+    let α = nodeAt a.plan a.level a.node in
+    let out : member (last α) a.list ≡ false =
+    ap (λ q. member q a.list) (sym (c .before .before .before .before .before .before .last-of .ensures ∙ e .pre .is-node .end)) ∙ sym (c .before .before .before .before .before .has .ensures) ∙ c .before .before .before .before .if1 .left in
+    c .explained-by .ensures
+    ∙ ap₂ (λ s t. explainedBy a.plan s t a.list) (c .before .before .before .boards-of .ensures)
+    (c .before .child-values .ensures
+    ∙ ap₂ (λ s k. table (kid a.plan s k (a.cells .now)) s (a.plan .n)) (c .before .before .before .boards-of .ensures) (c .before .before .first-child .ensures))
+    ∙ explained-kids (e .pre) a.list
+    ∙ sym (ap (λ b. b || explained a.plan α (byCell a.plan (a.cells .now) α) a.list) out)
+
+pub passes-at-spec : {M : Type 1} → statement M
+passes-at-spec =
+    tie.close
+    (tie.spec
+    (λ c κs. search needs)
+    (λ c κs. search needs)
+    returns
+    (λ c κs. search needs)
+    first-child-requires
+    child-values-requires
+    (λ c κs. search needs)
+    returns-2)

@@ -1,5 +1,0 @@
-pub mod Seats
-pub mod Collect
-pub mod Table
-pub mod Voted
-pub mod Laws

@@ -1,0 +1,4 @@
+pub mod Collect
+pub mod Table
+pub mod Voted
+pub mod Laws

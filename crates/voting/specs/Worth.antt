@@ -1,0 +1,18 @@
+-- What a node's children are worth, as a table of bytes by board. A middle layer.
+use Prim.Native.Nat.{ℕ, zero, suc}
+use mathlib.Core.Bool.{cond}
+use mathlib.Core.List.{List}
+use mathlib.Core.Option.{Option, some, none}
+use lib.ListN.{set, replicate}
+use Rattle.sets.specs.Sets.{member}
+use Rattle.tree.specs.Cells.{blank}
+
+-- 01: a value, or "none". Values are below m, so below FF, which stands for none.
+unfoldable pub worth : Option ℕ → ℕ
+worth none = blank
+worth (some v) = v
+
+-- What the boards below k are worth as children of a node with the boards s; FF for a board of the node.
+unfoldable pub table : (ℕ → Option ℕ) → ℕ → ℕ → List ℕ
+table f s zero = replicate 8 blank
+table f s (suc k) = let rest = table f s k in let more = set rest k (worth (f k)) in cond (member k s) rest more

@@ -1,0 +1,6 @@
+pub mod Codes
+pub mod Carried
+pub mod Numbers
+pub mod Steps
+pub mod Whole
+pub mod Reading

@@ -1,0 +1,3 @@
+// The nodes of a level as a list of numbers, made by one walk of the tree.
+pub mod node;
+pub mod nodes;
