@@ -1,5 +1,5 @@
 // Closing a round over a lent record.
-use board::closing::close;
+use closing::closing::close;
 use protocol::answers::Closing;
 use protocol::records::Record;
 ghost use mathlib.Core.Path.{_≡_};

@@ -1,8 +1,9 @@
 // Closes the largest round, round 7 of seven boards with 1,957 cells, a hundred times; writes the decision and the list.
-use board::beginning::begin;
-use board::closing::close;
+use beginning::beginning::begin;
+use closing::closing::close;
 use libc::STDOUT_FILENO;
 use plan::plan::Plan;
+use plan::plan::Settings;
 use plan::schedule::Round;
 
 // Cells of many values.
@@ -18,7 +19,12 @@ fn main() {
     // The one set that makes seven levels stands last of 32.
     let mut sets = [1u8; 32];
     sets[31] = 63;
-    let planned = Plan::new(7, &sets[0..32], 0, 255, 0);
+    let settings = Settings {
+        dealer: 0,
+        span: 255,
+        depth: 0,
+    };
+    let planned = Plan::new(7, &sets[0..32], settings);
     let mut cells = [0u8; 1957];
     let begun = begin(planned.plan, 6, &mut cells);
     let mut r = begun.rec;

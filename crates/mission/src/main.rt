@@ -1,11 +1,12 @@
 // One board's session in flight: board 1 of four, whose dealer, board 0, tells board 3 another value.
-use board::beginning::begin;
-use board::deciding::decide;
-use board::receiving::receive;
-use board::sending::send;
+use beginning::beginning::begin;
+use closing::deciding::decide;
+use exchange::receiving::receive;
+use exchange::sending::send;
 use flight::lent::close_lent;
 use libc::STDOUT_FILENO;
 use plan::plan::Plan;
+use plan::plan::Settings;
 use protocol::answers::Decision;
 use protocol::records::Record;
 ghost use mathlib.Core.Path.{_≡_};
@@ -22,7 +23,12 @@ fn close_round(r: Record, cells: &mut [u8]) -> Record
 
 fn main() {
     let sets = [1u8, 2, 4, 8];
-    let planned = Plan::new(4, &sets[0..4], 0, 16, 0);
+    let settings = Settings {
+        dealer: 0,
+        span: 16,
+        depth: 0,
+    };
+    let planned = Plan::new(4, &sets[0..4], settings);
     let mut cells = [0u8; 16];
     let begun = begin(planned.plan, 1, &mut cells);
     // Round 1: the dealer's frame.

@@ -52,10 +52,10 @@ use Rattle.protocol.proofs.answers.Closing as Ans
 use Rattle.protocol.proofs.answers.Closing.Laws as Ans′
 use Rattle.protocol.proofs.answers.Closed as Out
 use Rattle.protocol.proofs.answers.Closed.Laws as Out′
-use Rattle.board.proofs.closing.close as close
-use Rattle.board.proofs.closing.close.Symbol as close-def
-use Rattle.board.proofs.closing.close.Symbol.{name as #board·close}
-use Rattle.board.proofs.closing.close.Met as close-thm
+use Rattle.closing.proofs.closing.close as close
+use Rattle.closing.proofs.closing.close.Symbol as close-def
+use Rattle.closing.proofs.closing.close.Symbol.{name as #closing·close}
+use Rattle.closing.proofs.closing.close.Met as close-thm
 use Rattle.flight.specs.Lent.{lentClosing}
 use Rattle.flight.proofs.lent.close_lent.Key.{name as #flight·close-lent}
 use Rattle.flight.proofs.lent.close_lent as close-lent
@@ -136,7 +136,7 @@ module _ {M : Type 1} (𝓤 : URA M) (H : Heap 𝓤) (A : Atoms 𝓤) (W : Given
       qed W ((‵ (flft κ′ q′) ⊛ ‵ ftrue) ∷ ‵ (MutSlice (named 0) κ′ u8 .own cells (slice ∷ [])) ∷ ‵ (R .own h (bytes h)) ∷ []) ∵
       nothing ! $ move ! (2 ∷ 0 ∷ []) $ fjoin ! $ move ! (2 ∷ 0 ∷ []) $ fjoin ! $ move ! (1 ∷ 0 ∷ []) $ join ! $ frame ! $ done !
 
-  module _ (C : Calls 𝓤 H) (Λ : Loops 𝓤 H) (fm : FmC 𝓤 H (W .laws) C) (known : Triple 𝓤 (C #board·close) (ByValue 𝓤 H A at-mem run)) where
+  module _ (C : Calls 𝓤 H) (Λ : Loops 𝓤 H) (fm : FmC 𝓤 H (W .laws) C) (known : Triple 𝓤 (C #closing·close) (ByValue 𝓤 H A at-mem run)) where
     walk : Room u8 (length ys) → ent 𝓤 (onEntry 𝓤 H A close-lent.signature (κ, (κ′, tt)) (q, (q′, tt)) args vals) (WpFn 𝓤 H C Λ code.function (vptr b o ∷ slice ∷ []) Post)
     walk room =
         qed W ((‵ (flft κ q) ⊛ ‵ (flft κ′ q′) ⊛ ‵ ftrue) ∷ ‵ (owns (MutRef (named 0) κ R ∷ MutSlice (named 1) κ′ u8 ∷ []) args vals) ∷ []) ∵
@@ -175,11 +175,11 @@ module _ {M : Type 1} (𝓤 : URA M) (H : Heap 𝓤) (A : Atoms 𝓤) (W : Given
 
 -- The walk at every call.
 module _ {M : Type 1} (𝓤 : URA M) (H : Heap 𝓤) (A : Atoms 𝓤) (W : Given 𝓤 H A) (mem : Memory → SProp 𝓤) (run : Routine → Fun 𝓤) where
-  close-lent-walks : (C : Calls 𝓤 H) (Λ : Loops 𝓤 H) → FmC 𝓤 H (W .laws) C → Triple 𝓤 (C #board·close) (ByValue 𝓤 H A mem run) → Walks 𝓤 H A close-lent.ended stays (WpFn 𝓤 H C Λ code.function) (close-lent.clauses 𝓤 H A mem run)
+  close-lent-walks : (C : Calls 𝓤 H) (Λ : Loops 𝓤 H) → FmC 𝓤 H (W .laws) C → Triple 𝓤 (C #closing·close) (ByValue 𝓤 H A mem run) → Walks 𝓤 H A close-lent.ended stays (WpFn 𝓤 H C Λ code.function) (close-lent.clauses 𝓤 H A mem run)
   close-lent-walks C Λ fm known = walked 𝓤 H A close-lent.ended stays (close-lent.clauses 𝓤 H A mem run) (WpFn 𝓤 H C Λ code.function) (λ κs. (ptr-vals, (slice-vals, tt))) (λ κs. (mut-tells (named 0) (κs .0) R, (mut-slice-tells (named 1) (κs .1 .0) u8, tt)))
       (λ κs qs bounds a _ are. via 𝓤 _ (fst∗ 𝓤 _ (emp 𝓤)) (walk 𝓤 H A W mem run (κs .0) (κs .1 .0) bounds (qs .0) (qs .1 .0) (a .0 .ptr .0) (a .0 .ptr .1) (a .0 .name) (a .0 .now) (a .1 .0 .ptr .0) (a .1 .0 .ptr .1) (a .1 .0 .name) (a .1 .0 .now) C Λ fm known (are .1 .0 .0 .1)))
 
-close-lent-meets : {M : Type 1} (𝓤 : URA M) (H : Heap 𝓤) (A : Atoms 𝓤) → Given 𝓤 H A → (mem : Memory → SProp 𝓤) (run : Routine → Fun 𝓤) (𝓣 : Tables 𝓤 H) → Triple 𝓤 (𝓣 .C #board·close) (ByValue 𝓤 H A mem run)
+close-lent-meets : {M : Type 1} (𝓤 : URA M) (H : Heap 𝓤) (A : Atoms 𝓤) → Given 𝓤 H A → (mem : Memory → SProp 𝓤) (run : Routine → Fun 𝓤) (𝓣 : Tables 𝓤 H) → Triple 𝓤 (𝓣 .C #closing·close) (ByValue 𝓤 H A mem run)
     → Meets 𝓤 H A close-lent.signature (WpFn 𝓤 H (𝓣 .C) (𝓣 .Λ) code.function) (close-lent.spec 𝓤 H A mem run)
 close-lent-meets 𝓤 H A W mem run 𝓣 known =
     walk-meets 𝓤 H A close-lent.ended stays W (goes-ref 𝓤 H A W 2 0 tt (plain (λ _. R)), (goes-gave-slice 𝓤 H A W 2 1 tt (plain (λ _. u8)), tt)) (close-lent.clauses 𝓤 H A mem run)
@@ -191,4 +191,4 @@ close-lent-spec 𝓤 H 𝓜 𝓖 𝓡 =
     entered 𝓤 H (tripleOf 𝓤 H (𝓖 .A) close-lent.signature (close-lent.spec 𝓤 H (𝓖 .A) (𝓜 .mem) (𝓡 .run)))
     (tables 𝓤 H 𝓜 𝓡 code.env .C) (tables 𝓤 H 𝓜 𝓡 code.env .Λ) #flight·close-lent code.function (code.unfolded 𝓤 H 𝓜 𝓡)
     (close-lent-meets 𝓤 H (𝓖 .A) (givenOf 𝓤 H 𝓜 𝓖) (𝓜 .mem) (𝓡 .run) (tablesOf 𝓤 H 𝓜 (tables 𝓤 H 𝓜 𝓡 code.env))
-    (cited 𝓤 H (ByValue 𝓤 H (𝓖 .A) (𝓜 .mem) (𝓡 .run)) 𝓜 𝓡 code.env #board·close close-def.routine code.calls-board·closing·close (close-thm.met 𝓤 H 𝓜 𝓖 𝓡)))
+    (cited 𝓤 H (ByValue 𝓤 H (𝓖 .A) (𝓜 .mem) (𝓡 .run)) 𝓜 𝓡 code.env #closing·close close-def.routine code.calls-closing·closing·close (close-thm.met 𝓤 H 𝓜 𝓖 𝓡)))

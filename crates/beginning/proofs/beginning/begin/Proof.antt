@@ -1,0 +1,52 @@
+-- `begin` meets its contract: the three parts of what beginning leaves.
+-- Assumes nothing.
+use mathlib.Core.Path.{sym, ap, _∙_}
+use borrow.Author.Needs.{needs}
+use Rattle.plan.specs.Outcome.{Outcome, refusal, verdict}
+use Rattle.plan.proofs.Outcomes.{refusal-number}
+use Rattle.beginning.proofs.Answers.{begin-refused, begin-taken, begin-ready}
+use Rattle.beginning.proofs.beginning.begin.Statement.{statement}
+use Rattle.beginning.proofs.beginning.begin.Tie as tie
+
+clear-requires : tie.Need-clear-requires
+unfolding verdict
+clear-requires c κs =
+    let judged = c .before .before .before in
+    let a = judged .before .before .before .args in
+    let ok = ap verdict (sym (c .before .enum-told .given .1)) ∙ judged .judge-begin .ensures in
+    begin-ready a.plan a.board (a.cells .now) (ap (λ (o : Outcome). o .number) (sym ok))
+
+returns : tie.Need-returns
+unfolding verdict
+returns c =
+    let told = c .before .before in
+    let judged = told .before .before in
+    let a = judged .before .before .before .args in
+    let why = told .why .given in
+    let (x, y, z) = begin-refused a.plan a.board (a.cells .now) (refusal (why .0 .0)) (ap verdict (sym (why .1)) ∙ judged .judge-begin .ensures) (refusal-number (why .0 .0)) in
+    (x, c .void .ensures ∙ y, z)
+
+returns-2 : tie.Need-returns-2
+unfolding verdict
+returns-2 c =
+    let cleared = c .before .before .before in
+    let told = cleared .before .before in
+    let judged = told .before .before in
+    let a = judged .before .before .before .args in
+    let (x, y, z) = begin-taken a.plan a.board (a.cells .now) (ap verdict (sym (told .enum-told .given .1)) ∙ judged .judge-begin .ensures) in
+    (x, c .fresh .ensures ∙ y, cleared .clear .ensures ∙ z)
+
+pub begin-spec : {M : Type 1} → statement M
+begin-spec =
+    tie.close
+    (tie.spec
+    (λ c κs. search needs)
+    (λ c. search needs)
+    (λ c κs. search needs)
+    (λ c. search needs)
+    clear-requires
+    (λ c κs. search needs)
+    (λ c. search needs)
+    returns
+    (λ c. search needs)
+    returns-2)

@@ -1,0 +1,84 @@
+// Beginning a board.
+use crate::cells::clear;
+use judging::judging::judge_cells;
+use judging::judging::judge_number;
+use plan::plan::Plan;
+use plan::refusal::Verdict;
+use plan::refusal::first_of;
+use plan::schedule::Round;
+use plan::schedule::Run;
+use protocol::answers::Begun;
+use protocol::records::Record;
+ghost use mathlib.Core.Path.{_≡_};
+ghost use Rattle.plan.specs.Outcome.{verdict};
+ghost use Rattle.protocol.specs.Calls.{freshRecord, voidRecord, judgeBeginning, beginning};
+
+// The record of a board that begins.
+fn fresh(plan: Plan, board: u8) -> Record
+    ensures { λ r. ⌜ r ≡ freshRecord plan board ⌝ }
+{
+    let run = Run(1);
+    let round = Round(1);
+    Record {
+        plan: plan,
+        board: board,
+        run: run,
+        round: round,
+        detected: 0,
+        taken: 0,
+        decided: false,
+        decision: 0,
+    }
+}
+
+// The record beside a refused beginning, and of a board that has not begun.
+pub fn void() -> Record
+    ensures { λ r. ⌜ r ≡ voidRecord ⌝ }
+{
+    let plan = Plan::void();
+    let run = Run(0);
+    let round = Round(0);
+    Record {
+        plan: plan,
+        board: 0,
+        run: run,
+        round: round,
+        detected: 0,
+        taken: 0,
+        decided: false,
+        decision: 0,
+    }
+}
+
+// 1 to 8, then 9, 10, 11.
+fn judge_begin(plan: Plan, board: u8, cells: &[u8]) -> Verdict
+    ensures { λ v. ⌜ verdict v ≡ judgeBeginning plan board (now (cells .entry)) ⌝ }
+{
+    let plan_judged = plan.judge();
+    let number_judged = judge_number(plan, board);
+    let cells_judged = judge_cells(plan, cells);
+    first_of(plan_judged, first_of(number_judged, cells_judged))
+}
+
+// Beginning a board.
+pub fn begin(plan: Plan, board: u8, cells: &mut [u8]) -> Begun
+    ensures { λ r. ⌜ (verdict (r .answer) ≡ beginning plan board (now (cells .entry)) .answer) × (r .rec ≡ beginning plan board (now (cells .entry)) .board .rec) × (now (cells .exit) ≡ beginning plan board (now (cells .entry)) .board .cells) ⌝ }
+{
+    match judge_begin(plan, board, cells) {
+        Verdict::Refused(why) => {
+            let rec = void();
+            Begun {
+                answer: Verdict::Refused(why),
+                rec: rec,
+            }
+        }
+        Verdict::Accepted => {
+            clear(plan, cells);
+            let rec = fresh(plan, board);
+            Begun {
+                answer: Verdict::Accepted,
+                rec: rec,
+            }
+        }
+    }
+}

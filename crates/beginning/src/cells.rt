@@ -1,0 +1,33 @@
+// The cells of a board as a whole.
+use plan::plan::Plan;
+use tree::levels::cell_count;
+ghost use mathlib.Core.Path.{_≡_};
+ghost use mathlib.Core.List.{_++_};
+ghost use Prim.Native.Nat.{_≤_};
+ghost use lib.ListN.{length, drop, replicate};
+ghost use Rattle.plan.specs.Calls.{judged};
+ghost use Rattle.tree.specs.Places.{cellCount};
+ghost use Rattle.tree.specs.Cells.{blank};
+ghost use Rattle.protocol.specs.Rounds.{rootOnly};
+
+// All cells of a board hold FF; surplus cells stay.
+pub fn clear(plan: Plan, cells: &mut [u8])
+    requires { ⌜ (judged plan .number ≡ 0) × (cellCount (plan .n) ≤ length (now cells)) ⌝ }
+    ensures { λ _. ⌜ now (cells .exit) ≡ replicate (cellCount (plan .n)) blank ++ drop (cellCount (plan .n)) (now (cells .entry)) ⌝ }
+{
+    let count = cell_count(plan.n);
+    let mut i: usize = 0;
+    while i < count {
+        cells[i] = Plan::BLANK;
+        i += 1;
+    }
+}
+
+// The root becomes the first cell, all other cells of the board hold FF.
+pub fn keep_root(plan: Plan, root: u8, cells: &mut [u8])
+    requires { ⌜ (judged plan .number ≡ 0) × (cellCount (plan .n) ≤ length (now cells)) ⌝ }
+    ensures { λ _. ⌜ now (cells .exit) ≡ rootOnly (plan .n) root (now (cells .entry)) ⌝ }
+{
+    clear(plan, cells);
+    cells[0] = root;
+}

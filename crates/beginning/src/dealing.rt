@@ -1,0 +1,36 @@
+// The dealer's frame.
+use plan::plan::Plan;
+use plan::refusal::Refusal;
+use plan::refusal::Verdict;
+use plan::refusal::first_of;
+use protocol::answers::Dealt;
+ghost use mathlib.Core.Path.{_≡_};
+ghost use mathlib.Core.Bool.{cond};
+ghost use mathlib.Core.List.{[]};
+ghost use lib.Dec.{leb};
+ghost use Rattle.plan.specs.Outcome.{taken, refused, verdict};
+ghost use Rattle.protocol.specs.Answers.{dealtSays};
+ghost use Rattle.protocol.specs.Calls.{dealing};
+
+// The value: 18.
+fn judge_value(plan: Plan, value: u8) -> Verdict
+    ensures { λ v. ⌜ verdict v ≡ cond (leb (plan .span) value) (refused 18) (taken []) ⌝ }
+{
+    let span = plan.span;
+    if span <= value {
+        return Verdict::Refused(Refusal::BadValue);
+    }
+    Verdict::Accepted
+}
+
+// The dealer's frame: 1 to 8, then 18.
+pub fn deal(plan: Plan, value: u8) -> Dealt
+    ensures { λ r. ⌜ dealtSays r ≡ dealing plan value ⌝ }
+{
+    let plan_judged = plan.judge();
+    let value_judged = judge_value(plan, value);
+    match first_of(plan_judged, value_judged) {
+        Verdict::Refused(why) => Dealt::Refused(why),
+        Verdict::Accepted => Dealt::Frame(value),
+    }
+}

@@ -1,0 +1,18 @@
+-- What closing a round gathers, without the record. A middle layer.
+use Prim.Native.Nat.{ℕ, _-_}
+use mathlib.Core.Path.{_≡_}
+use mathlib.Core.List.{List}
+use Rattle.plan.specs.declared.plan.Plan.{Plan}
+use Rattle.plan.specs.declared.schedule.Round.{Round}
+use Rattle.protocol.specs.Nodes.{inner}
+use Rattle.protocol.specs.Detection.{Scan, detectAll1}
+use Rattle.protocol.specs.Rounds.{fillMissing, copyOwn}
+
+unfoldable pub gathered : Plan → ℕ → Round → ℕ → ℕ → List ℕ → Scan
+gathered p i k taken detected cells =
+    detectAll1 p i (inner p i (k .0 - 1)) (record { detected = detected; cells = copyOwn p i k (fillMissing p i k taken (p .n) cells) })
+
+-- The list and the cells after it.
+pub record Gathers (p : Plan) (i : ℕ) (k : Round) (taken detected found : ℕ) (before after : List ℕ) : Type 0 where
+  pub list-is : found ≡ gathered p i k taken detected before .detected
+  pub cells-are : after ≡ gathered p i k taken detected before .cells

@@ -1,0 +1,43 @@
+-- `send` meets its contract: both parts of what writing leaves.
+-- Assumes nothing.
+use mathlib.Core.Path.{sym, ap, _∙_}
+use borrow.Author.Needs.{needs}
+use Rattle.plan.specs.Outcome.{Outcome, refusal, verdict}
+use Rattle.plan.proofs.Outcomes.{refusal-number}
+use Rattle.protocol.specs.Answers.{sentSays}
+use Rattle.exchange.proofs.Taking.{open-stands}
+use Rattle.exchange.proofs.Writing.{send-closed, send-open}
+use Rattle.exchange.proofs.sending.send.Statement.{statement}
+use Rattle.exchange.proofs.sending.send.Tie as tie
+
+write-requires : tie.Need-write-requires
+unfolding verdict
+write-requires c κs =
+    let judged = c .before .before .before in
+    let a = judged .before .before .before .args in
+    open-stands (record { rec = a.r; cells = a.cells .now })
+    (ap (λ (o : Outcome). o .number) (sym (ap verdict (sym (c .before .enum-told .given .1)) ∙ judged .judge-open .ensures)))
+
+returns : tie.Need-returns
+unfolding sentSays verdict
+returns c =
+    let judged = c .before .before .before in
+    let a = judged .before .before .before .args in
+    let why = c .before .why .given in
+    send-closed (record { rec = a.r; cells = a.cells .now }) (a.out .now) (refusal (why .0 .0))
+    (ap verdict (sym (why .1)) ∙ judged .judge-open .ensures) (refusal-number (why .0 .0))
+
+returns-2 : tie.Need-returns-2
+unfolding verdict
+returns-2 c =
+    let written = c .before .before in
+    let told = written .before .before in
+    let judged = told .before .before in
+    let a = judged .before .before .before .args in
+    send-open (record { rec = a.r; cells = a.cells .now }) (a.out .now)
+    (ap (λ (o : Outcome). o .number) (sym (ap verdict (sym (told .enum-told .given .1)) ∙ judged .judge-open .ensures))) _ _ (written .write .ensures)
+
+pub send-spec : {M : Type 1} → statement M
+send-spec =
+    tie.close
+    (tie.spec (λ c κs. search needs) (λ c. search needs) (λ c. search needs) write-requires returns (λ c. search needs) returns-2)

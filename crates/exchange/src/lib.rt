@@ -1,0 +1,5 @@
+// Handing in a frame, and writing one.
+mod later;
+pub mod receiving;
+pub mod sending;
+mod word;

@@ -1,0 +1,119 @@
+// What the calls judge before they do anything.
+use plan::plan::Plan;
+use plan::refusal::Refusal;
+use plan::refusal::Verdict;
+use plan::refusal::first_of;
+use protocol::records::Record;
+use sets::boards::all_boards;
+use sets::boards::subset;
+use tree::levels::cell_count;
+ghost use mathlib.Core.Path.{_≡_};
+ghost use mathlib.Core.Bool.{_&&_, cond};
+ghost use mathlib.Core.List.{[]};
+ghost use Prim.Native.Nat.{_≤_};
+ghost use lib.Dec.{ltb};
+ghost use lib.ListN.{length};
+ghost use Rattle.plan.specs.Outcome.{taken, refused, verdict};
+ghost use Rattle.tree.specs.Places.{countWithin};
+ghost use Rattle.protocol.specs.Calls.{isTaken, judgeBoard, goodMarks, goodDecision, goodRecord, judgeRecord, judgeOpen};
+
+// The board's number: 9 and 10.
+pub fn judge_number(plan: Plan, board: u8) -> Verdict
+    ensures { λ v. ⌜ verdict v ≡ judgeBoard plan board ⌝ }
+{
+    let n = plan.n;
+    let dealer = plan.dealer;
+    if n <= board {
+        return Verdict::Refused(Refusal::BoardNumber);
+    }
+    if board == dealer {
+        return Verdict::Refused(Refusal::BoardIsDealer);
+    }
+    Verdict::Accepted
+}
+
+// The board's cells: 11.
+pub fn judge_cells(plan: Plan, cells: &[u8]) -> Verdict
+    ensures { λ v. ⌜ verdict v ≡ cond (ltb (length (now (cells .entry))) (countWithin (plan .n))) (refused 11) (taken []) ⌝ }
+{
+    if cells.len() < cell_count(plan.n) {
+        return Verdict::Refused(Refusal::ShortCells);
+    }
+    Verdict::Accepted
+}
+
+fn is_accepted(v: Verdict) -> bool
+    ensures { λ b. ⌜ b ≡ isTaken (verdict v) ⌝ }
+{
+    match v {
+        Verdict::Accepted => true,
+        Verdict::Refused(_) => false,
+    }
+}
+
+// The list, the marks and the decision of a record.
+fn has_good_fields(r: Record) -> bool
+    requires { ⌜ r .plan .n ≤ 8 ⌝ }
+    ensures { λ b. ⌜ b ≡ (goodMarks r && goodDecision r) ⌝ }
+{
+    let all = all_boards(r.plan.n);
+    let decided = r.decided;
+    let decision = r.decision;
+    let span = r.plan.span;
+    if !subset(r.detected, all) {
+        return false;
+    }
+    if !subset(r.taken, all) {
+        return false;
+    }
+    if decided {
+        return decision < span;
+    }
+    true
+}
+
+// Is it a record that 12 does not refuse?
+fn is_good(r: Record) -> bool
+    ensures { λ b. ⌜ b ≡ goodRecord r ⌝ }
+{
+    if !is_accepted(r.plan.judge()) {
+        return false;
+    }
+    if !is_accepted(judge_number(r.plan, r.board)) {
+        return false;
+    }
+    if !r.plan.has_round(r.run, r.round) {
+        return false;
+    }
+    has_good_fields(r)
+}
+
+// The record: 12.
+pub fn judge_record(r: Record) -> Verdict
+    ensures { λ v. ⌜ verdict v ≡ judgeRecord r ⌝ }
+{
+    if is_good(r) {
+        return Verdict::Accepted;
+    }
+    Verdict::Refused(Refusal::BadRecord)
+}
+
+// Has the board decided? 13.
+fn judge_decided(decided: bool) -> Verdict
+    ensures { λ v. ⌜ verdict v ≡ cond decided (refused 13) (taken []) ⌝ }
+{
+    if decided {
+        return Verdict::Refused(Refusal::Decided);
+    }
+    Verdict::Accepted
+}
+
+// 12, 11, 13.
+pub fn judge_open(r: Record, cells: &[u8]) -> Verdict
+    ensures { λ v. ⌜ verdict v ≡ judgeOpen (record { rec = r; cells = now (cells .entry) }) ⌝ }
+{
+    let record_judged = judge_record(r);
+    let cells_judged = judge_cells(r.plan, cells);
+    let decided_judged = judge_decided(r.decided);
+    first_of(record_judged, first_of(cells_judged, decided_judged))
+}

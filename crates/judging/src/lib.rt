@@ -1,0 +1,2 @@
+// What the calls of a board judge first.
+pub mod judging;
