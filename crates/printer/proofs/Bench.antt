@@ -12,6 +12,7 @@ use lib.Seq.{take-at}
 use borrow.Author.Tests.{eq-eqb, ne-eqb, eqb-false}
 use Rattle.plan.specs.Outcome.{Outcome, refused, refusal}
 use Rattle.plan.proofs.Outcomes.{refusal-number}
+use Rattle.protocol.specs.Limits.{sheetMost, outputNeeded, cellsNeeded}
 use Rattle.protocol.specs.declared.answers.Played.{Played}
 use Rattle.protocol.specs.declared.answers.Played.the-variants.{Written, Refused}
 use Rattle.protocol.specs.Answers.{playedSays}
@@ -46,11 +47,11 @@ playing-fits text cells out =
     let size = length-append t (drop (length t) out) in
     let rest = length-drop (length t) out in
     let accepted = playHead (r .head) (r .frames) cells out in
-    fits-cond out (ltb 65536 (length text)) _ _
+    fits-cond out (ltb sheetMost (length text)) _ _
     (λ e. fits-refused out cells (wrongAt 0 (refused 20)) (λ z. absurd (omega arith)))
-    (λ e. fits-cond out (ltb (length out) 49) _ _
+    (λ e. fits-cond out (ltb (length out) outputNeeded) _ _
     (λ e. fits-refused out cells (wrongAt 0 (refused 17)) (λ z. absurd (omega arith)))
-    (λ e. fits-cond out (ltb (length cells) 13699) _ _
+    (λ e. fits-cond out (ltb (length cells) cellsNeeded) _ _
     (λ e. fits-refused out cells (wrongAt 0 (refused 11)) (λ z. absurd (omega arith)))
     (λ e. fits-cond out (eqb (r .answer .number) 0) accepted (refusedPlay (r .answer) cells out)
     (λ e. record { room = omega (arith, size, rest); holds = λ z. omega (arith, size, rest) })

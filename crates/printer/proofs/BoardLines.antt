@@ -13,6 +13,7 @@ use lib.Seq.{sets}
 use borrow.Author.Tests.{eqb-false, lt-leb, le-leb}
 use Rattle.sets.specs.Sets.{member}
 use Rattle.sets.proofs.Tests.{cases}
+use Rattle.protocol.specs.Limits.{outputNeeded}
 use Rattle.protocol.specs.declared.records.Record.{Record}
 use Rattle.protocol.specs.Calls.{voidRecord}
 use Rattle.protocol.specs.Rounds.{Board}
@@ -140,13 +141,13 @@ module _ (n dealer faulty word : ℕ) (records : List Record) (out : List ℕ) w
   unfolding boardLines
   many-boards l = nothing (rw (lt-leb n 7 l) refl)
 
-  pub short-output : length out < 49 → (0 ≡ length text) × (out ≡ text ++ drop (length text) out)
+  pub short-output : length out < outputNeeded → (0 ≡ length text) × (out ≡ text ++ drop (length text) out)
   unfolding boardLines
-  short-output l = nothing (cases (leb n 7) (λ e. rw (e, lt-leb 49 (length out) l) refl) (λ e. rw e refl))
+  short-output l = nothing (cases (leb n 7) (λ e. rw (e, lt-leb outputNeeded (length out) l) refl) (λ e. rw e refl))
 
-  pub all-lines : n ≤ 7 → 49 ≤ length out → text ≡ printBoards (printHead n dealer faulty word) (boardsOf records) 0 n
+  pub all-lines : n ≤ 7 → outputNeeded ≤ length out → text ≡ printBoards (printHead n dealer faulty word) (boardsOf records) 0 n
   unfolding boardLines
-  all-lines l m = rw (le-leb n 7 l, le-leb 49 (length out) m) refl
+  all-lines l m = rw (le-leb n 7 l, le-leb outputNeeded (length out) m) refl
 
 -- What is printed depends on n, the dealer, its value and F, and on the records of the boards that are neither the dealer nor in F.
 module _ (h h′ : Head) (w w′ : Boards) (ed : h .dealer ≡ h′ .dealer) (ef : h .faulty ≡ h′ .faulty) (ew : h .word ≡ h′ .word) where
@@ -180,7 +181,7 @@ module _ (h : Head) (w : Boards) (records : List Record) where
       print-same (printHead (h .n) (h .dealer) (h .faulty) (h .word)) h (boardsOf records) w refl refl refl k
       (λ i l f d. record-at records i ∙ same i l f d)
 
-  pub lines-played : (out : List ℕ) → h .n ≤ 7 → 49 ≤ length out
+  pub lines-played : (out : List ℕ) → h .n ≤ 7 → outputNeeded ≤ length out
       → ((i : ℕ) → i < h .n → member i (h .faulty) ≡ false → i ≢ h .dealer → getD records i voidRecord ≡ boardAt w i .rec)
       → boardLines (h .n) (h .dealer) (h .faulty) (h .word) records out ≡ printBoards h w 0 (h .n)
   lines-played out l m same = all-lines (h .n) (h .dealer) (h .faulty) (h .word) records out l m ∙ records-print (h .n) same

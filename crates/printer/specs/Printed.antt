@@ -5,6 +5,7 @@ use mathlib.Core.List.{List, [], map, _++_}
 use lib.Dec.{leb, ltb}
 use lib.ListN.{length, drop}
 use Rattle.plan.specs.Outcome.{refusal}
+use Rattle.protocol.specs.Limits.{outputNeeded}
 use Rattle.protocol.specs.declared.records.Record.{Record}
 use Rattle.protocol.specs.declared.answers.Played.{Played}
 use Rattle.protocol.specs.declared.answers.Played.the-variants.{Written, Refused}
@@ -20,11 +21,11 @@ printHead n dealer faulty word = record { n = n; span = 0; dealer = dealer; dept
 unfoldable pub boardsOf : List Record → Boards
 boardsOf records = map (λ r. record { rec = r; cells = [] }) records
 
--- The lines of all boards outside F; nothing for more than seven boards, or if the output is under 49 bytes.
+-- The lines of all boards outside F; nothing for more than seven boards, or if the output is too short.
 unfoldable pub boardLines : ℕ → ℕ → ℕ → ℕ → List Record → List ℕ → List ℕ
 boardLines n dealer faulty word records out =
     let text = printBoards (printHead n dealer faulty word) (boardsOf records) 0 n in
-    cond (leb n 7 && leb 49 (length out)) text []
+    cond (leb n 7 && leb outputNeeded (length out)) text []
 
 -- What is printed for an answer: how many bytes of the output, and the output. Nothing if it does not fit.
 unfoldable pub reportLength : Played → List ℕ → ℕ

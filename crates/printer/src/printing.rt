@@ -1,6 +1,7 @@
 // Lines of uppercase hexadecimal.
 use plan::refusal::Refusal;
 use protocol::answers::Played;
+use protocol::limits::OUTPUT;
 use protocol::records::Record;
 use sets::boards::has;
 ghost use mathlib.Core.Path.{_≡_};
@@ -69,7 +70,7 @@ pub fn print_boards(
     if 7 < n {
         return 0;
     }
-    if out.len() < 49 {
+    if out.len() < OUTPUT {
         return 0;
     }
     let mut used: usize = 0;

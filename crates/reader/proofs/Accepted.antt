@@ -1,20 +1,49 @@
 -- A sheet that is accepted: its head line, its head and its frames.
 -- Assumes nothing.
-use Prim.Native.Nat.{ℕ, _+_, _-_, _<_}
+use Prim.Native.Nat.{ℕ, _+_, _-_, _/_, _<_}
 use mathlib.Core.Path.{_≡_, refl, sym, ap, _∙_}
-use mathlib.Core.List.{List}
+use mathlib.Core.Bool.{true, _&&_}
+use mathlib.Core.List.{List, [], _∷_}
 use mathlib.Core.Option.{none}
 use native.Mathlib.Omega.{arith}
-use lib.Dec.{eqb}
+use lib.Dec.{eqb, leb}
 use lib.ListN.{length, take, drop}
 use borrow.Author.Tests.{eqb-true, eqb-false}
-use Rattle.sets.proofs.Tests.{cases}
-use Rattle.protocol.specs.Sheet.{lines, headOf, headPlan, wrongAt, reading}
-use Rattle.text.specs.Text.{headFrom}
+use Rattle.sets.specs.Sets.{member}
+use Rattle.sets.proofs.Tests.{cases, and-l, and-r}
+use Rattle.plan.specs.declared.plan.Plan.{Plan}
+use Rattle.plan.specs.Outcome.{Outcome}
+use Rattle.protocol.specs.Sheet.{Line, lines, headOf, headPlan, wrongAt, reading}
+use Rattle.text.specs.Text.{isText, headFrom}
 use Rattle.text.proofs.Bytes.{all, head-parts, head-sized}
 use Rattle.text.proofs.LineEnds.{stop}
-use Rattle.reader.specs.Reading.{framesFrom, judgeTop}
-use Rattle.reader.proofs.WholeSheet.{Begun, sheet-begun, sheet-refused, read-head, read-frames}
+use Rattle.reader.specs.Reading.{lineFrame, framesOf, framesFrom, frameKey, rising, Rising, lineKey, goodLine, judgeLines, judgeTop}
+use Rattle.reader.proofs.WholeSheet.{Begun, sheet-begun, sheet-refused, sheet-answer, read-head, read-frames}
+
+-- Lines that are accepted rise.
+key-by-digits : (d : List ℕ) → frameKey (lineFrame d) ≡ lineKey d
+unfolding frameKey lineFrame lineKey
+key-by-digits d = refl
+
+good-low : (p : Plan) (faulty least : ℕ) (d : List ℕ) → goodLine p faulty least d ≡ true → leb least (lineKey d) ≡ true
+unfolding goodLine
+good-low p faulty least d e =
+    let sender = member (lineFrame d .sender) faulty in
+    let four = leb 4 (length d / 2) in
+    let low = leb least (lineKey d) in
+    and-l low sender (and-r four (low && sender) (and-l (four && (low && sender)) _ e))
+
+lines-rising : (p : Plan) (faulty : ℕ) (ls : List Line) (least number : ℕ) → judgeLines p faulty least number ls .number ≡ 0 → rising least (framesOf ls) ≡ true
+unfolding judgeLines rising framesOf wrongAt
+lines-rising p faulty [] least number ok = refl
+lines-rising p faulty (l ∷ ls) least number ok =
+    let d = l .text in
+    cases (l .ended && isText d)
+    (λ x. cases (goodLine p faulty least d)
+    (λ y. let rest : judgeLines p faulty (lineKey d + 1) (number + 1) ls .number ≡ 0 = rw (x, y) at ok in
+    rw (key-by-digits d, good-low p faulty least d y) (lines-rising p faulty ls (lineKey d + 1) (number + 1) rest))
+    (λ y. absurd (let z : 24 ≡ 0 = rw (x, y) at ok in omega arith)))
+    (λ x. absurd (let z : 21 ≡ 0 = rw x at ok in omega arith))
 
 module _ (text : List ℕ) (ok : reading text .answer .number ≡ 0) where
   begun : Begun text (stop text 0) refl
@@ -44,3 +73,11 @@ module _ (text : List ℕ) (ok : reading text .answer .number ≡ 0) where
   sheet-frames =
       let h = headOf (all (take (stop text 0 - 0) text)) in
       ap (λ r. r .frames) (begun .reads) ∙ read-frames h (lines (drop (stop text 0 + 1) text)) none 2 (ap (λ r. r .answer .number) (sym (begun .reads)) ∙ ok)
+
+  pub sheet-rising : Rising text (stop text 0 + 1)
+  unfolding framesFrom
+  sheet-rising =
+      let top = take (stop text 0 - 0) text in
+      let h = headFrom top in
+      lines-rising (h .plan) (h .faulty) (lines (drop (stop text 0 + 1) text)) 0 2
+      (ap (λ (o : Outcome). o .number) (sym (sheet-answer text (stop text 0) refl begun)) ∙ ok)

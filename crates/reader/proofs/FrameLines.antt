@@ -7,22 +7,22 @@ use mathlib.Core.Bool.{true, false, not, _&&_, cond}
 use mathlib.Core.List.{List, []}
 use native.Mathlib.Omega.{arith}
 use lib.Dec.{eqb, ltb}
-use lib.Pow.{pow-pos}
 use lib.ListN.{length, take, drop}
 use borrow.Author.Tests.{eq-eqb, lt-ltb, le-ltb, lt-leb, le-leb}
 use Rattle.sets.specs.Sets.{member}
+use Rattle.sets.specs.Holders.{holderTable}
 use Rattle.sets.proofs.Tests.{clash, is-false, and-l, and-r, not-t}
 use Rattle.plan.specs.declared.plan.Plan.{Plan}
 use Rattle.plan.specs.declared.schedule.Run.{Run}
 use Rattle.plan.specs.declared.schedule.Round.{Round}
-use Rattle.plan.specs.Schedule.{hasRound}
+use Rattle.plan.specs.Schedule.{listed, hasRound}
 use Rattle.plan.specs.Outcome.{Outcome, taken, refused}
 use Rattle.plan.specs.Calls.{judged}
 use Rattle.plan.proofs.Steps.{has-round}
 use Rattle.protocol.specs.Nodes.{sent, due}
 use Rattle.protocol.specs.Sheet.{lines, judgeHead, wrongAt}
-use Rattle.protocol.specs.Calls.{goodRecord}
-use Rattle.protocol.proofs.Judgement.{record-good}
+use Rattle.frames.specs.Nodes.{Standing}
+use Rattle.frames.proofs.Standing.{standing}
 use Rattle.text.specs.Text.{isText, byteAt, bytesFrom}
 use Rattle.text.proofs.Bytes.{byte-below}
 use Rattle.text.proofs.LineEnds.{stop, lines-none, lines-at}
@@ -55,19 +55,10 @@ module _ (p : Plan) (t : Run) (k : Round) (q i : ℕ) where
   unfolding expected
   is-expected-due e = rw e refl
 
-  -- The record of the receiver there.
-  pub receiver-good : judged p .number ≡ 0 → hasRound p t k ≡ true → i < p .n → i ≢ p .dealer
-      → goodRecord (record { plan = p; board = i; run = t; round = k; detected = 0; taken = 0; decided = false; decision = 0 }) ≡ true
-  receiver-good g h l ne =
-      record-good _ (record {
-        plan-good = g;
-        below = l;
-        other = ne;
-        position = has-round p t k h;
-        detected-below = pow-pos (p .n);
-        taken-below = pow-pos (p .n);
-        decision-below = λ x. clash x refl;
-      })
+  -- The receiver stands in that round.
+  pub receiver-stands : judged p .number ≡ 0 → hasRound p t k ≡ true → i < p .n → i ≢ p .dealer → (holders : List ℕ) → holders ≡ holderTable (listed p)
+      → Standing p holders i k
+  receiver-stands g h l ne holders e = let at = has-round p t k h in standing p holders i k g l ne (at .round-low) (at .round-high) e
 
 -- A good line, test by test.
 module _ (p : Plan) (faulty least : ℕ) (line : List ℕ) where

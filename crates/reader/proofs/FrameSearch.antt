@@ -3,25 +3,26 @@
 use Prim.Native.Nat.{ℕ, zero, suc, _+_, _-_, _*_, _/_, _≤_, _<_, min}
 use mathlib.Core.Path.{_≡_, refl, sym, ap, ap₂, _∙_}
 use mathlib.Core.Logic.{_≢_}
-use mathlib.Core.Bool.{false, _&&_}
+use mathlib.Core.Bool.{true}
 use mathlib.Core.List.{List, [], _∷_, _++_}
 use mathlib.Core.Option.{Option, some, none}
 use native.Mathlib.Numerals.{add-one}
 use native.Mathlib.Omega.{arith}
-use lib.Dec.{eqb, ltb}
+use lib.Dec.{ltb}
 use lib.ListN.{length, getD, take, drop, set, drop-of-length-le, length-drop, length-append, length-take}
 use lib.Seq.{getD-drop, take-at, take-all, set-at, drop-cons, append-snoc}
-use borrow.Author.Tests.{eq-eqb, eqb-true, lt-ltb, le-ltb, ltb-true, ltb-false}
-use Rattle.sets.proofs.Tests.{cases, is-false, and-l, and-r}
+use borrow.Author.Tests.{eq-eqb, lt-ltb, le-ltb, ltb-true, ltb-false}
+use Rattle.sets.proofs.Tests.{cases}
 use Rattle.plan.specs.declared.schedule.Run.{Run}
 use Rattle.plan.specs.declared.schedule.Round.{Round}
 use Rattle.protocol.specs.Sheet.{lines, digit}
 use Rattle.protocol.specs.Playing.{findFrame}
 use Rattle.text.specs.Text.{byteOf, byteAt, bytesFrom}
 use Rattle.text.proofs.Bytes.{byte-below, bytes-length, bytes-take}
-use Rattle.text.proofs.LineEnds.{lines-none, lines-at, stop-ge}
-use Rattle.reader.specs.Reading.{lineFrame, framesOf, framesFrom, keyOf, readLength, readValues}
-use Rattle.reader.specs.Places.{lineStop, lineAt, lineAfter, frameAt}
+use Rattle.text.proofs.LineEnds.{lines-none, lines-at}
+use Rattle.reader.specs.Reading.{lineFrame, framesOf, framesFrom, keyOf, frameKey, rising, Rising, skipFrames, readLength, readValues}
+use Rattle.reader.specs.Places.{lineStop, lineAt, frameAt}
+use Rattle.reader.proofs.ByKey.{skip-low, rising-skipped, find-none, find-skipped}
 
 -- Equal keys have equal bytes.
 pub key-same : (t k q i t′ k′ q′ i′ : ℕ) → k < 256 → q < 256 → i < 256 → k′ < 256 → q′ < 256 → i′ < 256 → keyOf t k q i ≡ keyOf t′ k′ q′ i′
@@ -29,48 +30,15 @@ pub key-same : (t k q i t′ k′ q′ i′ : ℕ) → k < 256 → q < 256 → i
 unfolding keyOf
 key-same t k q i t′ k′ q′ i′ a b c a′ b′ c′ e = (omega arith, omega arith, omega arith, omega arith)
 
-same-key : (t k q i t′ k′ q′ i′ : ℕ) → t ≡ t′ → k ≡ k′ → q ≡ q′ → i ≡ i′ → keyOf t k q i ≡ keyOf t′ k′ q′ i′
-same-key t k q i t′ k′ q′ i′ a b c d = ap₂ (λ x y. keyOf x y q i) a b ∙ ap₂ (λ x y. keyOf t′ k′ x y) c d
-
--- The line after: its end, and one more unless the text ends there.
+-- The frames from the line at `at` on.
 module _ (text : List ℕ) (at : ℕ) where
-  pub after-newline : lineStop text at < length text → lineStop text at + 1 ≡ lineAfter text at
-  unfolding lineAfter
-  after-newline l = rw (lt-ltb (lineStop text at) (length text) l) refl
-
-  pub after-last : length text ≤ lineStop text at → lineStop text at ≡ lineAfter text at
-  unfolding lineAfter
-  after-last l = rw (le-ltb (lineStop text at) (length text) l) refl
-
-  pub after-later : at < length text → at < lineAfter text at
-  after-later l =
-      let e = lineStop text at in
-      let h = stop-ge text at in
-      cases (ltb e (length text))
-      (λ x. omega (arith, after-newline (ltb-true e (length text) x)))
-      (λ x. omega (arith, ltb-false e (length text) x, after-last (ltb-false e (length text) x)))
-
-  -- The frames from the line at `at` on.
   frames-none : length text ≤ at → framesFrom text at ≡ []
   unfolding framesFrom framesOf
   frames-none l = ap framesOf (lines-none text at l)
 
-  frames-at : at < length text → framesFrom text at ≡ lineFrame (lineAt text at) ∷ framesFrom text (lineAfter text at)
+  frames-at : at < length text → framesFrom text at ≡ lineFrame (lineAt text at) ∷ framesFrom text (lineStop text at + 1)
   unfolding framesFrom framesOf lineAt
-  frames-at l =
-      let e = lineStop text at in
-      let rest : framesOf (lines (drop (e + 1) text)) ≡ framesOf (lines (drop (lineAfter text at) text)) =
-      cases (ltb e (length text))
-      (λ x. ap (λ m. framesOf (lines (drop m text))) (after-newline (ltb-true e (length text) x)))
-      (λ x. let h = ltb-false e (length text) x in
-      let h′ : length text ≤ e + 1 = omega arith in
-      ap framesOf (lines-none text (e + 1) h′ ∙ sym (lines-none text e h)) ∙ ap (λ m. framesOf (lines (drop m text))) (after-last h)) in
-      ap framesOf (lines-at text at l) ∙ ap (λ fs. lineFrame (take (e - at) (drop at text)) ∷ fs) rest
-
--- The search at a place.
-module _ (text : List ℕ) (at : ℕ) (t : Run) (k : Round) (q i : ℕ) where
-  abbrev found : ℕ → Option (List ℕ)
-  found m = findFrame t k q i (framesFrom text m)
+  frames-at l = ap framesOf (lines-at text at l)
 
   abbrev line : List ℕ
   line = lineAt text at
@@ -78,51 +46,68 @@ module _ (text : List ℕ) (at : ℕ) (t : Run) (k : Round) (q i : ℕ) where
   abbrev key : List ℕ → ℕ
   key l = keyOf (byteAt l 0) (byteAt l 1) (byteAt l 2) (byteAt l 3)
 
-  -- The key that the code has of the line, by the line's end e.
-  key-here : (e n : ℕ) → e ≡ lineStop text at → n ≡ key (take (e - at) (drop at text)) → n ≡ key line
-  unfolding lineAt
-  key-here e n x y = y ∙ ap (λ m. key (take (m - at) (drop at text))) x
+  -- With what the code has in hand: the line's end e and its key n.
+  module _ (e n : ℕ) (ends : e ≡ lineStop text at) (en : n ≡ key (take (e - at) (drop at text))) where
+    key-here : n ≡ frameKey (lineFrame line)
+    unfolding lineAt frameKey lineFrame
+    key-here = en ∙ ap (λ m. key (take (m - at) (drop at text))) ends
 
-  pub search-end : length text ≤ at → frameAt text at ≡ found at
-  unfolding frameAt findFrame
-  search-end l = rw (le-ltb at (length text) l, frames-none text at l) refl
+    -- Skipping lines with keys below `least`.
+    pub skip-stop : (least : ℕ) → at < length text → least ≤ n → framesFrom text at ≡ skipFrames least (framesFrom text at)
+    unfolding skipFrames
+    skip-stop least l h = rw (frames-at l, le-ltb (frameKey (lineFrame line)) least (omega (arith, key-here))) refl
 
-  hit : at < length text → k .0 < 256 → q < 256 → i < 256 → key line ≡ keyOf (t .0) (k .0) q i → frameAt text at ≡ found at
-  unfolding frameAt findFrame lineFrame
-  hit l bk bq bi e =
-      let (et, ek, eq, ei) = key-same (byteAt line 0) (byteAt line 1) (byteAt line 2) (byteAt line 3) (t .0) (k .0) q i
-      (byte-below line 1) (byte-below line 2) (byte-below line 3) bk bq bi e in
-      rw (
-        lt-ltb at (length text) l,
-        frames-at text at l,
-        eq-eqb (byteAt line 0) (t .0) et,
-        eq-eqb (byteAt line 1) (k .0) ek,
-        eq-eqb (byteAt line 2) q eq,
-        eq-eqb (byteAt line 3) i ei,
-      ) refl
+    pub skip-line : (least : ℕ) → at < length text → n < least → skipFrames least (framesFrom text (e + 1)) ≡ skipFrames least (framesFrom text at)
+    unfolding skipFrames
+    skip-line least l h =
+        ap (λ m. skipFrames least (framesFrom text (m + 1))) ends
+        ∙ sym (rw (frames-at l, lt-ltb (frameKey (lineFrame line)) least (omega (arith, key-here))) refl)
 
-  miss : at < length text → key line ≢ keyOf (t .0) (k .0) q i → found (lineAfter text at) ≡ found at
-  unfolding findFrame lineFrame
-  miss l ne =
-      let a = eqb (byteAt line 0) (t .0) in
-      let b = eqb (byteAt line 1) (k .0) in
-      let c = eqb (byteAt line 2) q in
-      let d = eqb (byteAt line 3) i in
-      let no : ((a && b) && (c && d)) ≡ false =
-      is-false ((a && b) && (c && d)) (λ x. let ab = and-l (a && b) (c && d) x in
-      let cd = and-r (a && b) (c && d) x in
-      ne (same-key (byteAt line 0) (byteAt line 1) (byteAt line 2) (byteAt line 3) (t .0) (k .0) q i
-      (eqb-true (byteAt line 0) (t .0) (and-l a b ab)) (eqb-true (byteAt line 1) (k .0) (and-r a b ab))
-      (eqb-true (byteAt line 2) q (and-l c d cd)) (eqb-true (byteAt line 3) i (and-r c d cd)))) in
-      rw (frames-at text at l, no) refl
+  pub skip-end : (least : ℕ) → length text ≤ at → framesFrom text at ≡ skipFrames least (framesFrom text at)
+  unfolding skipFrames
+  skip-end least l = rw (frames-none l) refl
 
-  -- With what the code has in hand: the line's end e, its key n, and the key w that is wanted.
-  module _ (e n w : ℕ) (ends : e ≡ lineStop text at) (en : n ≡ key (take (e - at) (drop at text))) (ew : w ≡ keyOf (t .0) (k .0) q i) where
-    pub search-hit : at < length text → k .0 < 256 → q < 256 → i < 256 → n ≡ w → frameAt text at ≡ found at
-    search-hit l bk bq bi s = hit l bk bq bi (sym (key-here e n ends en) ∙ s ∙ ew)
+-- The frame that is looked for, by the place `at` that the search from `from` on stops at.
+module _ (text : List ℕ) (from at : ℕ) (t : Run) (k : Round) (q i w : ℕ) (ew : w ≡ keyOf (t .0) (k .0) q i) where
+  abbrev found : ℕ → Option (List ℕ)
+  found m = findFrame t k q i (framesFrom text m)
 
-    pub search-miss : at < length text → n ≢ w → found (lineAfter text at) ≡ found at
-    search-miss l ne = miss l (λ s. ne (key-here e n ends en ∙ s ∙ sym ew))
+  module _ (stops : framesFrom text at ≡ skipFrames w (framesFrom text from)) where
+    same : found at ≡ found from
+    same = ap (findFrame t k q i) stops ∙ find-skipped t k q i w (framesFrom text from) (omega arith)
+
+    pub search-end : length text ≤ at → frameAt text at ≡ found from
+    unfolding frameAt findFrame
+    search-end l = rw (le-ltb at (length text) l) (sym (ap (findFrame t k q i) (frames-none text at l)) ∙ same)
+
+    -- With what the code has in hand: the line's end e and its key n.
+    module _ (e n : ℕ) (ends : e ≡ lineStop text at) (en : n ≡ key text at (take (e - at) (drop at text))) (l : at < length text) where
+      abbrev here : List ℕ
+      here = lineAt text at
+
+      pub search-hit : k .0 < 256 → q < 256 → i < 256 → n ≡ w → frameAt text at ≡ found from
+      unfolding frameAt findFrame lineFrame frameKey
+      search-hit bk bq bi s =
+          let (et, ek, eq, ei) = key-same (byteAt here 0) (byteAt here 1) (byteAt here 2) (byteAt here 3) (t .0) (k .0) q i
+          (byte-below here 1) (byte-below here 2) (byte-below here 3) bk bq bi (sym (key-here text at e n ends en) ∙ s ∙ ew) in
+          rw (
+            lt-ltb at (length text) l,
+            frames-at text at l,
+            eq-eqb (byteAt here 0) (t .0) et,
+            eq-eqb (byteAt here 1) (k .0) ek,
+            eq-eqb (byteAt here 2) q eq,
+            eq-eqb (byteAt here 3) i ei,
+          ) refl
+          ∙ same
+
+      pub search-none : Rising text from → n ≢ w → frameAt text (length text) ≡ found from
+      unfolding frameAt
+      search-none up ne =
+          let first = frames-at text at l in
+          let low = skip-low w (framesFrom text from) (lineFrame here) (framesFrom text (lineStop text at + 1)) (sym stops ∙ first) in
+          let up′ : rising 0 (framesFrom text at) ≡ true = rw stops (rising-skipped w (framesFrom text from) up) in
+          rw (le-ltb (length text) (length text) (omega arith))
+          (sym (find-none t k q i (framesFrom text at) (lineFrame here) (framesFrom text (lineStop text at + 1)) up′ first (omega (arith, key-here text at e n ends en))) ∙ same)
 
 -- The values stand after the first eight digits.
 byte-later : (line : List ℕ) (j : ℕ) → byteAt (drop 8 line) j ≡ byteAt line (4 + j)

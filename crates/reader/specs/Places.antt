@@ -1,5 +1,5 @@
 -- Lines and frames by the place where a line begins.
-use Prim.Native.Nat.{ℕ, _+_, _-_}
+use Prim.Native.Nat.{ℕ, _-_}
 use mathlib.Core.Bool.{cond}
 use mathlib.Core.List.{List}
 use mathlib.Core.Option.{Option, some, none}
@@ -14,10 +14,6 @@ lineStop text at = first (λ i. eqb (getD text i 0) 10) (length text - at) at
 
 unfoldable pub lineAt : List ℕ → ℕ → List ℕ
 lineAt text at = take (lineStop text at - at) (drop at text)
-
--- Where the next line begins; the end of the text after the last.
-unfoldable pub lineAfter : List ℕ → ℕ → ℕ
-lineAfter text at = let e = lineStop text at in cond (ltb e (length text)) (e + 1) e
 
 -- The values of the frame line at `at`, if a line begins there.
 unfoldable pub frameAt : List ℕ → ℕ → Option (List ℕ)

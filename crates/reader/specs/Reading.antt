@@ -1,9 +1,10 @@
 -- Frame lines as the code reads them, and what the reader answers.
 use Prim.Native.Nat.{ℕ, _+_, _-_, _*_, _/_, min}
-use mathlib.Core.Bool.{Bool, not, _&&_, cond}
+use mathlib.Core.Path.{_≡_}
+use mathlib.Core.Bool.{Bool, true, not, _&&_, cond}
 use mathlib.Core.List.{List, [], _∷_, _++_}
 use mathlib.Core.Option.{Option, some, none}
-use lib.Dec.{eqb, leb}
+use lib.Dec.{eqb, leb, ltb}
 use lib.ListN.{length, take, drop}
 use Rattle.sets.specs.Sets.{member}
 use Rattle.plan.specs.declared.plan.Plan.{Plan}
@@ -16,7 +17,7 @@ use Rattle.protocol.specs.Sheet.{Line, Frame, lines, judgeHead, wrongAt}
 use Rattle.text.specs.Text.{isText, byteAt, bytesFrom}
 use Rattle.reader.specs.declared.finding.Found.{Found}
 use Rattle.reader.specs.declared.finding.Found.the-variants.{Missing, Values}
-use Rattle.reader.specs.declared.judging.Judged.{Judged}
+use Rattle.reader.specs.declared.judgement.Judged.{Judged}
 
 -- A verdict on a sheet: for a refusal its line before its values.
 unfoldable pub judgedSays : Judged → Outcome
@@ -43,6 +44,23 @@ framesFrom text at = framesOf (lines (drop at text))
 -- Run, round, sender and receiver as one number.
 unfoldable pub keyOf : ℕ → ℕ → ℕ → ℕ → ℕ
 keyOf t k q i = ((t * 256 + k) * 256 + q) * 256 + i
+
+unfoldable pub frameKey : Frame → ℕ
+frameKey f = keyOf (f .run .0) (f .round .0) (f .sender) (f .receiver)
+
+-- 01: "Lines rise strictly by (run, round, sender, receiver)", here by key, and from `least` on.
+unfoldable pub rising : ℕ → List Frame → Bool
+rising least [] = true
+rising least (f ∷ fs) = leb least (frameKey f) && rising (frameKey f + 1) fs
+
+-- The frame lines from place `at` on rise.
+abbrev pub Rising : List ℕ → ℕ → Type 0
+Rising text at = rising 0 (framesFrom text at) ≡ true
+
+-- The frames from the first on whose key is `least` or above.
+unfoldable pub skipFrames : ℕ → List Frame → List Frame
+skipFrames least [] = []
+skipFrames least (f ∷ fs) = let rest = skipFrames least fs in cond (ltb (frameKey f) least) rest (f ∷ fs)
 
 -- The key of a frame line.
 unfoldable pub lineKey : List ℕ → ℕ

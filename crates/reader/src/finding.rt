@@ -12,8 +12,8 @@ ghost use Prim.Native.Nat.{_/_, min};
 ghost use lib.ListN.{length};
 ghost use Rattle.protocol.specs.Playing.{findFrame};
 ghost use Rattle.text.specs.Text.{bytesFrom};
-ghost use Rattle.reader.specs.Places.{lineAfter, frameAt};
-ghost use Rattle.reader.specs.Reading.{framesFrom, foundSays, readLength, readValues};
+ghost use Rattle.reader.specs.Places.{frameAt};
+ghost use Rattle.reader.specs.Reading.{framesFrom, keyOf, Rising, skipFrames, foundSays, readLength, readValues};
 
 // A frame of the sheet: none, or how many of its values were read.
 pub enum Found {
@@ -21,31 +21,43 @@ pub enum Found {
     Values(usize),
 }
 
-// Where the line after the one at `at` begins.
-fn line_after(text: &[u8], at: usize) -> usize
-    ensures { λ r. ⌜ r ≡ lineAfter (now (text .entry)) at ⌝ }
+// Where the first line from `from` on begins whose key is `least` or above; past all lines if there is none.
+fn skip(text: &[u8], from: usize, least: usize) -> usize
+    ensures { λ r. ⌜ framesFrom (now (text .entry)) r ≡ skipFrames least (framesFrom (now (text .entry)) from) ⌝ }
 {
-    let end = line_end(text, at);
-    if end < text.len() {
-        return end + 1;
-    }
-    end
-}
-
-// Where the first frame line for a run, a round, a sender and a receiver begins, from `from` on; the end of the text if there is none.
-fn find_line(text: &[u8], from: usize, run: Run, round: Round, sender: u8, receiver: u8) -> usize
-    ensures { λ r. ⌜ frameAt (now (text .entry)) r ≡ findFrame run round sender receiver (framesFrom (now (text .entry)) from) ⌝ }
-{
-    let wanted = key(run.0, round.0, sender, receiver);
     let mut at = from;
     while at < text.len() {
         let end = line_end(text, at);
-        if key_of(&text[at..end]) == wanted {
+        if least <= key_of(&text[at..end]) {
             return at;
         }
-        at = line_after(text, at);
+        at = end + 1;
     }
     at
+}
+
+// Where the first line from `from` on begins that is not before a round; past all lines if there is none.
+pub fn skip_to(text: &[u8], from: usize, run: Run, round: Round) -> usize
+    ensures { λ r. ⌜ framesFrom (now (text .entry)) r ≡ skipFrames (keyOf (run .0) (round .0) 0 0) (framesFrom (now (text .entry)) from) ⌝ }
+{
+    skip(text, from, key(run.0, round.0, 0, 0))
+}
+
+// Where the frame line for a run, a round, a sender and a receiver begins, from `from` on; past all lines if there is none.
+fn find_line(text: &[u8], from: usize, run: Run, round: Round, sender: u8, receiver: u8) -> usize
+    requires { ⌜ Rising (now text) from ⌝ }
+    ensures { λ r. ⌜ frameAt (now (text .entry)) r ≡ findFrame run round sender receiver (framesFrom (now (text .entry)) from) ⌝ }
+{
+    let wanted = key(run.0, round.0, sender, receiver);
+    let at = skip(text, from, wanted);
+    if text.len() <= at {
+        return at;
+    }
+    let end = line_end(text, at);
+    if key_of(&text[at..end]) == wanted {
+        return at;
+    }
+    text.len()
 }
 
 // The smaller of two numbers.
@@ -81,6 +93,7 @@ pub fn read_frame(
     receiver: u8,
     values: &mut [u8],
 ) -> Found
+    requires { ⌜ Rising (now text) from ⌝ }
     ensures { λ r. ⌜ (foundSays r ≡ readLength (findFrame run round sender receiver (framesFrom (now (text .entry)) from)) (length (now (values .entry)))) × (now (values .exit) ≡ readValues (findFrame run round sender receiver (framesFrom (now (text .entry)) from)) (now (values .entry))) ⌝ }
 {
     let at = find_line(text, from, run, round, sender, receiver);

@@ -1,4 +1,4 @@
 // Reading a sheet: judging it whole, and finding a frame.
 pub mod finding;
-pub mod judging;
+pub mod judgement;
 mod keys;

@@ -6,6 +6,7 @@ use mathlib.Core.List.{List}
 use mathlib.Core.Option.{Option, some, none}
 use native.Mathlib.Omega.{arith}
 use lib.ListN.{take, replicate}
+use Rattle.protocol.specs.Limits.{frameRoom}
 use Rattle.protocol.specs.Rounds.{Board}
 use Rattle.protocol.specs.Calls.{receiving}
 use Rattle.protocol.specs.Session.{handIn}
@@ -21,11 +22,11 @@ module _ (v : Option (List ℕ)) where
   pub read-fits : (room k : ℕ) → some k ≡ readLength v room → k ≤ room
   read-fits room k e = let (vs, _, z) = read-frame-is v room k (sym e) in omega (arith, z)
 
-  pub read-heard : (k q : ℕ) (b : Board) → some k ≡ readLength v 121
-      → receiving b q (take (k - 0) (readValues v (replicate 121 0))) .board ≡ handIn q v b
+  pub read-heard : (k q : ℕ) (b : Board) → some k ≡ readLength v frameRoom
+      → receiving b q (take (k - 0) (readValues v (replicate frameRoom 0))) .board ≡ handIn q v b
   unfolding handIn
   read-heard k q b e =
-      let (vs, x, _) = read-frame-is v 121 k (sym e) in
-      let whole : take (k - 0) (readValues v (replicate 121 0)) ≡ take 121 vs =
-      ap (λ m. take m (readValues v (replicate 121 0))) (let z : k - 0 ≡ k = omega arith in z) ∙ read-taken v vs (replicate 121 0) 121 k x refl (sym e) in
+      let (vs, x, _) = read-frame-is v frameRoom k (sym e) in
+      let whole : take (k - 0) (readValues v (replicate frameRoom 0)) ≡ take frameRoom vs =
+      ap (λ m. take m (readValues v (replicate frameRoom 0))) (let z : k - 0 ≡ k = omega arith in z) ∙ read-taken v vs (replicate frameRoom 0) frameRoom k x refl (sym e) in
       ap (λ f. receiving b q f .board) whole ∙ ap (λ y. y .board) (overlong b q vs) ∙ ap (λ x. handIn q x b) (sym x)

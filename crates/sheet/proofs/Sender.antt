@@ -13,18 +13,20 @@ use borrow.Author.Tests.{eq-eqb, ne-eqb, ltb-false}
 use Rattle.sets.specs.Sets.{member}
 use Rattle.sets.specs.Search.{any}
 use Rattle.sets.proofs.Tests.{cases}
+use Rattle.plan.specs.declared.plan.Plan.{Plan}
 use Rattle.plan.specs.Outcome.{Outcome, taken, refused}
 use Rattle.plan.proofs.Outcomes.{both-taken, passed, taken-first}
+use Rattle.protocol.specs.Limits.{frameRoom}
 use Rattle.protocol.specs.Nodes.{due}
 use Rattle.tree.specs.Places.{cellCount}
-use Rattle.protocol.specs.declared.records.Record.{Record}
 use Rattle.protocol.specs.Rounds.{Board}
 use Rattle.protocol.specs.Calls.{isTaken, judgeOpen, dealing, frameOf, judgeSending, sending}
 use Rattle.protocol.specs.Sheet.{Frame}
 use Rattle.protocol.specs.Playing.{part}
 use Rattle.text.specs.declared.head.Head.{Head}
-use Rattle.sheet.specs.declared.acting.Act.the-variants.{Hear, HearFaulty, Close}
-use Rattle.sheet.specs.Stage.{Stage, noRecord, boardOn, actAll, dealtFrame, frameFrom, hearSender, hearSenders, playSteps}
+use Rattle.reader.specs.Reading.{skipFrames}
+use Rattle.sheet.specs.declared.acting.Act.the-variants.{Hear, HearFaulty}
+use Rattle.sheet.specs.Stage.{Stage, noRecord, boardOn, actAll, dealtFrame, frameFrom, hearSender, hearSenders, playStep, stepKey, framesLeft, playSteps}
 
 pub dealt-taken : (h : Head) (v : ℕ) → taken (v ∷ []) ≡ dealing (h .plan) (h .word) → v ∷ [] ≡ dealtFrame h
 unfolding dealtFrame isTaken
@@ -53,18 +55,26 @@ module _ (h : Head) (q : ℕ) (b : Board) where
   unfolding frameFrom
   from-dealer e = rw (eq-eqb q (h .plan .dealer) e) refl
 
-  pub from-sender : (k : ℕ) (out : List ℕ) → q ≢ h .plan .dealer → out ≡ replicate 121 0 → taken (k ∷ []) ≡ sending b out .answer
+  pub from-sender : (k : ℕ) (out : List ℕ) → q ≢ h .plan .dealer → out ≡ replicate frameRoom 0 → taken (k ∷ []) ≡ sending b out .answer
       → take k (sending b out .out) ≡ frameFrom h q b
   unfolding frameFrom isTaken
   from-sender k out ne e t =
-      let t′ : sending b (replicate 121 0) .answer ≡ taken (k ∷ []) = ap (λ x. sending b x .answer) (sym e) ∙ sym t in
+      let t′ : sending b (replicate frameRoom 0) .answer ≡ taken (k ∷ []) = ap (λ x. sending b x .answer) (sym e) ∙ sym t in
       ap (λ x. take k (sending b x .out)) e
-      ∙ rw (ne-eqb q (h .plan .dealer) ne) (sym (ap (λ o. cond (isTaken o) (take (getD (o .values) 0 0) (sending b (replicate 121 0) .out)) []) t′))
+      ∙ rw (ne-eqb q (h .plan .dealer) ne) (sym (ap (λ o. cond (isTaken o) (take (getD (o .values) 0 0) (sending b (replicate frameRoom 0) .out)) []) t′))
 
-  pub from-nobody : (out : List ℕ) → q ≢ h .plan .dealer → out ≡ replicate 121 0 → sending b out .answer .number ≢ 0 → [] ≡ frameFrom h q b
+  pub from-nobody : (out : List ℕ) → q ≢ h .plan .dealer → out ≡ replicate frameRoom 0 → sending b out .answer .number ≢ 0 → [] ≡ frameFrom h q b
   unfolding frameFrom isTaken
   from-nobody out ne e t =
-      rw (ne-eqb q (h .plan .dealer) ne, ne-eqb (sending b (replicate 121 0) .answer .number) 0 (λ z. t (ap (λ x. sending b x .answer .number) e ∙ z))) refl
+      rw (ne-eqb q (h .plan .dealer) ne, ne-eqb (sending b (replicate frameRoom 0) .answer .number) 0 (λ z. t (ap (λ x. sending b x .answer .number) e ∙ z))) refl
+
+-- Board q with its part as it is lent.
+pub board-lent : (h : Head) (q : ℕ) (st : Stage) (c : ℕ) → c ≡ cellCount (h .plan .n)
+    → _≡_ {A = Board} (record { rec = getD (st .recs) q noRecord; cells = take (q * c + c - q * c) (drop (q * c) (st .cells)) }) (boardOn (h .plan .n) st q)
+unfolding boardOn part
+board-lent h q st c size =
+    ap (λ k. record { rec = getD (st .recs) q noRecord; cells = take k (drop (q * c) (st .cells)) }) (let z : q * c + c - q * c ≡ c = omega arith in z)
+    ∙ ap (λ k. record { rec = getD (st .recs) q noRecord; cells = take k (drop (q * k) (st .cells)) }) size
 
 -- What every board hears from board q.
 module _ (h : Head) (fs : List Frame) (q : ℕ) (st : Stage) where
@@ -72,21 +82,21 @@ module _ (h : Head) (fs : List Frame) (q : ℕ) (st : Stage) where
   unfolding hearSender
   heard-faulty e = rw e refl
 
-  pub heard-healthy : (r : Record) (cells f : List ℕ) (c : ℕ) → member q (h .faulty) ≡ false → c ≡ cellCount (h .plan .n)
-      → r ≡ getD (st .recs) q noRecord → cells ≡ take (q * c + c - q * c) (drop (q * c) (st .cells))
-      → f ≡ frameFrom h q (record { rec = r; cells = cells }) → actAll h (Hear q) fs f (h .plan .n) st ≡ hearSender h fs q st
-  unfolding hearSender boardOn part
-  heard-healthy r cells f c e size er ec ef =
-      let ec′ : cells ≡ take (cellCount (h .plan .n)) (drop (q * cellCount (h .plan .n)) (st .cells)) =
-      ec ∙ ap (λ k. take k (drop (q * c) (st .cells))) (let z : q * c + c - q * c ≡ c = omega arith in z) ∙ ap (λ k. take k (drop (q * k) (st .cells))) size in
-      rw e (ap (λ x. actAll h (Hear q) fs x (h .plan .n) st) (ef ∙ ap₂ (λ u v. frameFrom h q (record { rec = u; cells = v })) er ec′))
+  pub heard-healthy : (f : List ℕ) → member q (h .faulty) ≡ false → f ≡ frameFrom h q (boardOn (h .plan .n) st q)
+      → actAll h (Hear q) fs f (h .plan .n) st ≡ hearSender h fs q st
+  unfolding hearSender
+  heard-healthy f e ef = rw e (ap (λ x. actAll h (Hear q) fs x (h .plan .n) st) ef)
 
   pub heard-more : (t : Stage) → st ≡ hearSenders h fs q t → hearSender h fs q st ≡ hearSenders h fs (q + 1) t
   unfolding hearSenders
   heard-more t e = rw (add-one q) (ap (hearSender h fs q) e)
 
--- One step more: all have heard, and close.
-pub played-more : (h : Head) (fs : List Frame) (j : ℕ) (st t : Stage) → st ≡ playSteps h fs j t
-    → actAll h Close fs [] (h .plan .n) (hearSenders h fs (h .plan .n) st) ≡ playSteps h fs (j + 1) t
-unfolding playSteps
-played-more h fs j st t e = rw (add-one j) (ap (λ x. actAll h Close fs [] (h .plan .n) (hearSenders h fs (h .plan .n) x)) e)
+-- One step more, with what is left of the frames.
+pub left-more : (p : Plan) (j : ℕ) (fs : List Frame) → skipFrames (stepKey p j) (framesLeft p j fs) ≡ framesLeft p (j + 1) fs
+unfolding framesLeft
+left-more p j fs = rw (add-one j) refl
+
+pub played-more : (h : Head) (fs rest : List Frame) (j : ℕ) (st t : Stage) → rest ≡ skipFrames (stepKey (h .plan) j) (framesLeft (h .plan) j fs) → st ≡ playSteps h fs j t
+    → playStep h rest st ≡ playSteps h fs (j + 1) t
+unfolding playSteps framesLeft
+played-more h fs rest j st t er e = rw (add-one j) (ap₂ (playStep h) er e)

@@ -12,12 +12,13 @@ use lib.Seq.{getD-set-same, getD-set-other}
 use borrow.Author.Tests.{eqb-true, eqb-false, eq-eqb, ne-eqb, ltb-true, ltb-false, lt-ltb, le-ltb, lt-leb}
 use Rattle.sets.specs.Sets.{member}
 use Rattle.sets.proofs.Tests.{cases, clash, and-l}
-use Rattle.plan.specs.Schedule.{steps, stepRun, stepRound}
+use Rattle.plan.specs.Schedule.{rounds, steps, stepRun, stepRound}
 use Rattle.plan.specs.Outcome.{Outcome, taken, refused}
 use Rattle.plan.specs.Calls.{judged}
 use Rattle.plan.proofs.Outcomes.{taken-first}
 use Rattle.tree.specs.Places.{cellCount}
 use Rattle.sets.specs.Search.{any}
+use Rattle.protocol.specs.Limits.{cellsNeeded, frameRoom}
 use Rattle.protocol.specs.Nodes.{due}
 use Rattle.protocol.specs.Rounds.{Board}
 use Rattle.protocol.specs.Calls.{isTaken, voidRecord, judgeOpen, judgeSending, dealing, receiving, sending, frameOf, beginning}
@@ -36,8 +37,10 @@ use Rattle.protocol.proofs.Sheets.{GoodHead, head-n, head-dealer, parts-most, p
 use Rattle.text.specs.declared.head.Head.{Head}
 use Rattle.sheet.specs.declared.acting.Act.{Act}
 use Rattle.sheet.specs.declared.acting.Act.the-variants.{Begin, Hear, HearFaulty, Close}
-use Rattle.sheet.specs.Stage.{Stage, noRecord, boardOn, keeps, acted, putBoard, actAll, dealtFrame, frameFrom, hearSender, hearSenders, playSteps}
+use Rattle.sheet.specs.Stage.{Stage, noRecord, boardOn, keeps, acted, putBoard, actAll, dealtFrame, frameFrom, hearSender, hearSenders, playStep, framesLeft, playSteps}
+use Rattle.walk.proofs.Whole.{rounds-most}
 use Rattle.sheet.proofs.Sender.{from-dealer, from-sender, heard-faulty}
+use Rattle.sheet.proofs.Steps.{sought-left}
 use Rattle.sheet.proofs.Parts.{replace, laid, laid-same, laid-own, laid-part, laid-replace}
 
 -- Nothing is due from the board to anybody: writing is refused.
@@ -52,7 +55,7 @@ silent b out o x =
 unfoldable pub codeHead : S.Head → Head
 codeHead h = record { plan = headPlan h; faulty = h .faulty; word = h .word }
 
-module _ (h : S.Head) (good : GoodHead h) (cells₀ : List ℕ) (room : 13699 ≤ length cells₀) where
+module _ (h : S.Head) (good : GoodHead h) (cells₀ : List ℕ) (room : cellsNeeded ≤ length cells₀) where
   abbrev s : Setting
   s = setting h cells₀
 
@@ -217,8 +220,16 @@ module _ (h : S.Head) (good : GoodHead h) (cells₀ : List ℕ) (room : 13699 �
         holds-same _ (at s a 0) (played 0) begin-is
         (acts-all unbegun start start-holds Begin fs [] (λ i k. ap (λ (b : Board). length (b .cells)) (begin-is i k) ∙ at-size 0 i k (omega arith)))
 
+    rounds-few : rounds (headPlan h) .0 ≤ 255
+    unfolding setting
+    rounds-few = omega (arith, rounds-most (headPlan h) (sound .accepted), few)
+
     -- In step j: what board i hears from the boards below q.
     module _ (j : ℕ) (inside : j < steps (headPlan h)) where
+      -- What is left of the frames.
+      abbrev rest : List Frame
+      rest = framesLeft (headPlan h) (suc j) fs
+
       abbrev heard : ℕ → ℕ → Board
       heard q i = hear (told s a i j) (at s a j i) q
 
@@ -230,12 +241,12 @@ module _ (h : S.Head) (good : GoodHead h) (cells₀ : List ℕ) (room : 13699 �
       heard-size q i l k = mid q i l k .size ∙ at-size j i k (omega arith)
 
       told-faulty : (q i : ℕ) → q < n → keeper s i ≡ true → member q (h .faulty) ≡ true
-          → acted (headPlan h) (HearFaulty q) fs [] i (heard q i) ≡ heard (suc q) i
+          → acted (headPlan h) (HearFaulty q) rest [] i (heard q i) ≡ heard (suc q) i
       unfolding acted hear hears setting sheetAdversary
       told-faulty q i l k e =
           let m = mid q i (omega arith) k in
           rw e (ap (λ x. handIn q x (heard q i))
-          (ap₂ (λ t u. findFrame t u q (heard q i .rec .board) fs) (m .run) (m .round) ∙ ap (λ b. findFrame (stepRun (headPlan h) (suc j)) (stepRound (headPlan h) (suc j)) q b fs) (m .board)))
+          (ap₂ (λ t u. findFrame t u q (heard q i .rec .board) rest) (m .run) (m .round) ∙ ap (λ b. findFrame (stepRun (headPlan h) (suc j)) (stepRound (headPlan h) (suc j)) q b rest) (m .board) ∙ sought-left (headPlan h) rounds-few j inside q i fs))
 
       -- The dealer's frame.
       dealt-is : member (headPlan h .dealer) (h .faulty) ≡ false → dealing (headPlan h) (h .word) ≡ taken (h .word ∷ [])
@@ -245,7 +256,7 @@ module _ (h : S.Head) (good : GoodHead h) (cells₀ : List ℕ) (room : 13699 �
           taken-first (judged (headPlan h)) _ (sound .accepted) ∙ rw (lt-leb (headPlan h .span) (h .word) below) refl
 
       told-dealer : (q i : ℕ) (f : List ℕ) → member q (h .faulty) ≡ false → q ≡ headPlan h .dealer → f ≡ dealtFrame (codeHead h)
-          → acted (headPlan h) (Hear q) fs f i (heard q i) ≡ heard (suc q) i
+          → acted (headPlan h) (Hear q) rest f i (heard q i) ≡ heard (suc q) i
       unfolding acted hear hears setting handIn dealtFrame codeHead isTaken
       told-dealer q i f e d ef =
           let t = dealt-is (subst (λ x. member x (h .faulty) ≡ false) d e) in
@@ -254,18 +265,18 @@ module _ (h : S.Head) (good : GoodHead h) (cells₀ : List ℕ) (room : 13699 �
 
       -- The frame of a board that keeps cells.
       written : (q : ℕ) (b : Board) → Open b → q ≢ headPlan h .dealer
-          → (frameFrom (codeHead h) q b ≡ frameOf b) ⊎ (sending b (replicate 121 0) .answer .number ≢ 0)
+          → (frameFrom (codeHead h) q b ≡ frameOf b) ⊎ (sending b (replicate frameRoom 0) .answer .number ≢ 0)
       unfolding codeHead
       written q b o ne =
           let r = b .rec in
-          let out = replicate {A = ℕ} 121 0 in
+          let out = replicate {A = ℕ} frameRoom 0 in
           cases (any (λ i. due (r .plan) (r .board) i (r .round)) (r .plan .n))
-          (λ x. let t = sends b out o (omega (arith, length-replicate {A = ℕ} 121 0)) x in
+          (λ x. let t = sends b out o (omega (arith, length-replicate {A = ℕ} frameRoom 0)) x in
           inl (sym (from-sender (codeHead h) q b (length (frameOf b)) out ne refl (sym t)) ∙ sending-gives b out (length (frameOf b)) t))
           (λ x. inr (λ z. let y : ⊥ = omega (arith, sym (silent b out o x) ∙ z) in y))
 
       told-keeper : (q i : ℕ) (f : List ℕ) → keeper s q ≡ true → keeper s i ≡ true → f ≡ frameFrom (codeHead h) q (heard q q)
-          → acted (headPlan h) (Hear q) fs f i (heard q i) ≡ heard (suc q) i
+          → acted (headPlan h) (Hear q) rest f i (heard q i) ≡ heard (suc q) i
       unfolding acted hear hears setting handIn at
       told-keeper q i f kq ki ef =
           let (below, e, d) = keeper-facts s a sound q kq in
@@ -278,37 +289,37 @@ module _ (h : S.Head) (good : GoodHead h) (cells₀ : List ℕ) (room : 13699 �
           (λ x. nothing q i f kq ki x ∙ sym (nothing q i g kq ki x))
           (written q (heard q q) (mq .opened) d))
         where
-          nothing : (q i : ℕ) (y : List ℕ) → keeper s q ≡ true → keeper s i ≡ true → sending (heard q q) (replicate 121 0) .answer .number ≢ 0
+          nothing : (q i : ℕ) (y : List ℕ) → keeper s q ≡ true → keeper s i ≡ true → sending (heard q q) (replicate frameRoom 0) .answer .number ≢ 0
               → receiving (heard q i) q y .board ≡ heard q i
           nothing q i y kq ki x =
               let (below, _, _) = keeper-facts s a sound q kq in
               let mq = mid q q (omega arith) kq in
               let mi = mid q i (omega arith) ki in
               subst (λ b. receiving (heard q i) b y .board ≡ heard q i) (mq .board)
-              (unsent (heard q q) (heard q i) (replicate 121 0) y (mq .opened) (omega (arith, length-replicate {A = ℕ} 121 0)) (mi .plan ∙ sym (mq .plan)) (mi .round ∙ sym (mq .round)) x)
+              (unsent (heard q q) (heard q i) (replicate frameRoom 0) y (mq .opened) (omega (arith, length-replicate {A = ℕ} frameRoom 0)) (mi .plan ∙ sym (mq .plan)) (mi .round ∙ sym (mq .round)) x)
 
       -- Every board has heard one board more.
-      sender-holds : (q : ℕ) (st : Stage) → q < n → Holds (heard q) st → Holds (heard (suc q)) (hearSender (codeHead h) fs q st)
+      sender-holds : (q : ℕ) (st : Stage) → q < n → Holds (heard q) st → Holds (heard (suc q)) (hearSender (codeHead h) rest q st)
       sender-holds q st l x =
           cases (member q (h .faulty))
           (λ e. subst (Holds (heard (suc q))) (faulty-sender q st e)
           (holds-same _ (heard (suc q)) _ (λ i k. told-faulty q i l k e)
-          (acts-all (heard q) st x (HearFaulty q) fs [] (λ i k. ap (λ (b : Board). length (b .cells)) (told-faulty q i l k e) ∙ heard-size (suc q) i l k))))
+          (acts-all (heard q) st x (HearFaulty q) rest [] (λ i k. ap (λ (b : Board). length (b .cells)) (told-faulty q i l k e) ∙ heard-size (suc q) i l k))))
           (λ e. let f = frameFrom (codeHead h) q (boardOn n st q) in
-          let same : (i : ℕ) → keeper s i ≡ true → acted (headPlan h) (Hear q) fs f i (heard q i) ≡ heard (suc q) i = λ i k. told-healthy q i st l x e k in
+          let same : (i : ℕ) → keeper s i ≡ true → acted (headPlan h) (Hear q) rest f i (heard q i) ≡ heard (suc q) i = λ i k. told-healthy q i st l x e k in
           subst (Holds (heard (suc q))) (healthy-sender q st e)
           (holds-same _ (heard (suc q)) _ same
-          (acts-all (heard q) st x (Hear q) fs f (λ i k. ap (λ (b : Board). length (b .cells)) (same i k) ∙ heard-size (suc q) i l k))))
+          (acts-all (heard q) st x (Hear q) rest f (λ i k. ap (λ (b : Board). length (b .cells)) (same i k) ∙ heard-size (suc q) i l k))))
         where
-          faulty-sender : (q : ℕ) (st : Stage) → member q (h .faulty) ≡ true → actAll (codeHead h) (HearFaulty q) fs [] n st ≡ hearSender (codeHead h) fs q st
-          faulty-sender q st e = unfold codeHead in heard-faulty (codeHead h) fs q st e
+          faulty-sender : (q : ℕ) (st : Stage) → member q (h .faulty) ≡ true → actAll (codeHead h) (HearFaulty q) rest [] n st ≡ hearSender (codeHead h) rest q st
+          faulty-sender q st e = unfold codeHead in heard-faulty (codeHead h) rest q st e
 
           healthy-sender : (q : ℕ) (st : Stage) → member q (h .faulty) ≡ false
-              → actAll (codeHead h) (Hear q) fs (frameFrom (codeHead h) q (boardOn n st q)) n st ≡ hearSender (codeHead h) fs q st
+              → actAll (codeHead h) (Hear q) rest (frameFrom (codeHead h) q (boardOn n st q)) n st ≡ hearSender (codeHead h) rest q st
           healthy-sender q st e = unfold codeHead hearSender in rw e refl
 
           told-healthy : (q i : ℕ) (st : Stage) → q < n → Holds (heard q) st → member q (h .faulty) ≡ false → keeper s i ≡ true
-              → acted (headPlan h) (Hear q) fs (frameFrom (codeHead h) q (boardOn n st q)) i (heard q i) ≡ heard (suc q) i
+              → acted (headPlan h) (Hear q) rest (frameFrom (codeHead h) q (boardOn n st q)) i (heard q i) ≡ heard (suc q) i
           told-healthy q i st l x e k =
               cases (eqb q (headPlan h .dealer))
               (λ d. let same = eqb-true q (headPlan h .dealer) d in
@@ -316,20 +327,20 @@ module _ (h : S.Head) (good : GoodHead h) (cells₀ : List ℕ) (room : 13699 �
               (λ d. let kq : keeper s q ≡ true = unfold keeper setting in rw (lt-ltb q n l, e, d) refl in
               told-keeper q i (frameFrom (codeHead h) q (boardOn n st q)) kq k (ap (frameFrom (codeHead h) q) (look (heard q) st x q kq)))
 
-      heard-holds : (st : Stage) → Holds (at s a j) st → (q : ℕ) → q ≤ n → Holds (heard q) (hearSenders (codeHead h) fs q st)
+      heard-holds : (st : Stage) → Holds (at s a j) st → (q : ℕ) → q ≤ n → Holds (heard q) (hearSenders (codeHead h) rest q st)
       unfolding hearSenders hear
       heard-holds st x zero l = x
-      heard-holds st x (suc q) l = sender-holds q (hearSenders (codeHead h) fs q st) l (heard-holds st x q (omega arith))
+      heard-holds st x (suc q) l = sender-holds q (hearSenders (codeHead h) rest q st) l (heard-holds st x q (omega arith))
 
-      closed-is : (i : ℕ) → keeper s i ≡ true → acted (headPlan h) Close fs [] i (heard n i) ≡ at s a (suc j) i
+      closed-is : (i : ℕ) → keeper s i ≡ true → acted (headPlan h) Close rest [] i (heard n i) ≡ at s a (suc j) i
       unfolding acted setting
       closed-is i k = sym (at-next s a i j (kept-below i k))
 
       step-holds : Holds (at s a j) (played j) → Holds (at s a (suc j)) (played (suc j))
-      unfolding playSteps codeHead
+      unfolding playSteps playStep codeHead
       step-holds x =
           holds-same _ (at s a (suc j)) (played (suc j)) closed-is
-          (acts-all (heard n) (hearSenders (codeHead h) fs n (played j)) (heard-holds (played j) x n (omega arith)) Close fs []
+          (acts-all (heard n) (hearSenders (codeHead h) rest n (played j)) (heard-holds (played j) x n (omega arith)) Close rest []
           (λ i k. ap (λ (b : Board). length (b .cells)) (closed-is i k) ∙ at-size (suc j) i k inside))
 
     played-holds : (j : ℕ) → j ≤ steps (headPlan h) → Holds (at s a j) (played j)

@@ -1,6 +1,6 @@
 -- A whole sheet: what the code has in hand is what playing leaves.
 -- Assumes nothing.
-use Prim.Native.Nat.{ℕ, zero, suc, _≤_, _<_}
+use Prim.Native.Nat.{ℕ, zero, suc, _+_, _≤_, _<_}
 use mathlib.Core.Path.{_≡_, refl, sym, ap, ap₂, subst, _∙_}
 use mathlib.Core.Logic.{_≢_}
 use mathlib.Core.Bool.{true, cond}
@@ -11,6 +11,7 @@ use lib.ListN.{length, getD, drop, replicate}
 use borrow.Author.Tests.{eq-eqb, ne-eqb, lt-ltb, le-ltb}
 use Rattle.plan.specs.Schedule.{steps}
 use Rattle.plan.specs.Outcome.{Outcome, taken, refused, verdict}
+use Rattle.protocol.specs.Limits.{sheetMost, outputNeeded, cellsNeeded}
 use Rattle.protocol.specs.declared.records.Record.{Record}
 use Rattle.protocol.specs.Calls.{voidRecord}
 use Rattle.protocol.specs.Lists.{keeper}
@@ -19,11 +20,13 @@ use Rattle.protocol.specs.Sheet as S
 use Rattle.protocol.specs.Playing.{setting, finalBoards, printBoards, Play, refusedPlay, playHead, playing}
 use Rattle.protocol.proofs.Sheets.{GoodHead, sheet-head, sheet-sound, head-n, head-dealer, parts-most}
 use Rattle.text.specs.declared.head.Head.{Head}
-use Rattle.reader.specs.declared.judging.Judged.{Judged}
+use Rattle.text.proofs.LineEnds.{stop}
+use Rattle.reader.specs.declared.judgement.Judged.{Judged}
 use Rattle.reader.specs.Reading.{judgedSays}
+use Rattle.reader.proofs.Accepted.{sheet-rising}
 use Rattle.printer.specs.Printed.{boardLines}
 use Rattle.printer.proofs.BoardLines.{lines-played}
-use Rattle.sheet.specs.Stage.{Stage, Roomy, noRecord, playSteps}
+use Rattle.sheet.specs.Stage.{Stage, Ready, noRecord, playSteps}
 use Rattle.sheet.proofs.Stages.{codeHead, final-stage, final-cells, final-record}
 
 in-list : (l : List Record) (i : ℕ) (d e : Record) → i < length l → getD l i d ≡ getD l i e
@@ -32,7 +35,7 @@ in-list (r ∷ rs) zero d e h = refl
 in-list (r ∷ rs) (suc i) d e h = in-list rs i d e (omega arith)
 
 -- A sheet that is accepted.
-module _ (text cells out : List ℕ) (ok : reading text .answer .number ≡ 0) (room : 13699 ≤ length cells) (wide : 49 ≤ length out) where
+module _ (text cells out : List ℕ) (ok : reading text .answer .number ≡ 0) (room : cellsNeeded ≤ length cells) (wide : outputNeeded ≤ length out) where
   abbrev h : S.Head
   h = reading text .head
 
@@ -42,11 +45,11 @@ module _ (text cells out : List ℕ) (ok : reading text .answer .number ≡ 0) (
   abbrev good : GoodHead h
   good = sheet-head text ok
 
-  pub head-roomy : Roomy (codeHead h) cells
+  pub head-ready : Ready (codeHead h) cells text (stop text 0 + 1)
   unfolding codeHead
-  head-roomy =
+  head-ready =
       let few = subst (λ k. k ≤ 7) (sym (head-n h good)) (good .most-boards) in
-      (few, omega (arith, parts-most (headPlan h .n) few))
+      record { few = few; room = omega (arith, parts-most (headPlan h .n) few); rising = sheet-rising text ok }
 
   -- The stage at the end.
   abbrev pub ended : Stage
@@ -78,29 +81,29 @@ module _ (text cells out : List ℕ) (ok : reading text .answer .number ≡ 0) (
 
 -- The judgements before a sheet is read, and its reading.
 module _ (text cells out : List ℕ) where
-  pub too-long : 65536 < length text → refusedPlay (wrongAt 0 (refused 20)) cells out ≡ playing text cells out
+  pub too-long : sheetMost < length text → refusedPlay (wrongAt 0 (refused 20)) cells out ≡ playing text cells out
   unfolding playing
-  too-long l = rw (lt-ltb 65536 (length text) l) refl
+  too-long l = rw (lt-ltb sheetMost (length text) l) refl
 
-  pub short-output : length text ≤ 65536 → length out < 49 → refusedPlay (wrongAt 0 (refused 17)) cells out ≡ playing text cells out
+  pub short-output : length text ≤ sheetMost → length out < outputNeeded → refusedPlay (wrongAt 0 (refused 17)) cells out ≡ playing text cells out
   unfolding playing
-  short-output a l = rw (le-ltb 65536 (length text) a, lt-ltb (length out) 49 l) refl
+  short-output a l = rw (le-ltb sheetMost (length text) a, lt-ltb (length out) outputNeeded l) refl
 
-  pub short-cells : length text ≤ 65536 → 49 ≤ length out → length cells < 13699 → refusedPlay (wrongAt 0 (refused 11)) cells out ≡ playing text cells out
+  pub short-cells : length text ≤ sheetMost → outputNeeded ≤ length out → length cells < cellsNeeded → refusedPlay (wrongAt 0 (refused 11)) cells out ≡ playing text cells out
   unfolding playing
-  short-cells a b l = rw (le-ltb 65536 (length text) a, le-ltb (length out) 49 b, lt-ltb (length cells) 13699 l) refl
+  short-cells a b l = rw (le-ltb sheetMost (length text) a, le-ltb (length out) outputNeeded b, lt-ltb (length cells) cellsNeeded l) refl
 
-  module _ (a : length text ≤ 65536) (b : 49 ≤ length out) (c : 13699 ≤ length cells) where
+  module _ (a : length text ≤ sheetMost) (b : outputNeeded ≤ length out) (c : cellsNeeded ≤ length cells) where
     pub sheet-refused : (o : Outcome) → o ≡ reading text .answer → o .number ≢ 0 → refusedPlay o cells out ≡ playing text cells out
     unfolding playing
     sheet-refused o e ne =
         ap (λ x. refusedPlay x cells out) e
-        ∙ rw (le-ltb 65536 (length text) a, le-ltb (length out) 49 b, le-ltb (length cells) 13699 c, ne-eqb (reading text .answer .number) 0 (λ z. ne (ap (λ (x : Outcome). x .number) e ∙ z))) refl
+        ∙ rw (le-ltb sheetMost (length text) a, le-ltb (length out) outputNeeded b, le-ltb (length cells) cellsNeeded c, ne-eqb (reading text .answer .number) 0 (λ z. ne (ap (λ (x : Outcome). x .number) e ∙ z))) refl
 
     pub sheet-accepted : reading text .answer .number ≡ 0 → playHead (reading text .head) (reading text .frames) cells out ≡ playing text cells out
     unfolding playing
     sheet-accepted e =
-        rw (le-ltb 65536 (length text) a, le-ltb (length out) 49 b, le-ltb (length cells) 13699 c, eq-eqb (reading text .answer .number) 0 e) refl
+        rw (le-ltb sheetMost (length text) a, le-ltb (length out) outputNeeded b, le-ltb (length cells) cellsNeeded c, eq-eqb (reading text .answer .number) 0 e) refl
 
 -- The verdict on a sheet.
 module _ (j : Judged) (text : List ℕ) (e : judgedSays j ≡ reading text .answer) where

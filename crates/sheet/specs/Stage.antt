@@ -1,19 +1,22 @@
 -- All boards of a session, and what they do in turn.
-use Prim.Native.Nat.{ℕ, zero, suc, _*_, _≤_}
+use Prim.Native.Nat.{ℕ, zero, suc, _*_, _≤_, _<_}
 use mathlib.Core.Bool.{Bool, false, not, _&&_, cond}
-use mathlib.Core.List.{List, [], _∷_}
+use mathlib.Core.List.{List, []}
 use lib.Dec.{eqb}
 use lib.ListN.{length, getD, set, take, replicate}
 use Rattle.sets.specs.Sets.{member}
 use Rattle.plan.specs.declared.plan.Plan.{Plan}
+use Rattle.plan.specs.Schedule.{stepRun, stepRound}
 use Rattle.tree.specs.Places.{cellCount}
 use Rattle.protocol.specs.declared.records.Record.{Record}
+use Rattle.protocol.specs.Limits.{frameRoom}
 use Rattle.protocol.specs.Rounds.{Board}
 use Rattle.protocol.specs.Calls.{isTaken, beginning, receiving, sending, closing, dealing}
 use Rattle.protocol.specs.Session.{handIn}
 use Rattle.protocol.specs.Sheet.{Frame}
 use Rattle.protocol.specs.Playing.{findFrame, part, replacePart}
 use Rattle.text.specs.declared.head.Head.{Head}
+use Rattle.reader.specs.Reading.{keyOf, Rising, skipFrames}
 use Rattle.sheet.specs.declared.acting.Act.{Act}
 use Rattle.sheet.specs.declared.acting.Act.the-variants.{Begin, Hear, HearFaulty, Close}
 
@@ -22,9 +25,17 @@ pub record Stage : Type 0 where
   pub recs : List Record
   pub cells : List ℕ
 
--- At most seven boards, and each one's part lies within the cells.
-abbrev pub Roomy : Head → List ℕ → Type 0
-Roomy h cells = (h .plan .n ≤ 7) × (h .plan .n * cellCount (h .plan .n) ≤ length cells)
+-- At most seven boards, each one's part lies within the cells, and the frame lines from `from` on rise.
+pub record Ready (h : Head) (cells text : List ℕ) (from : ℕ) : Type 0 where
+  pub few : h .plan .n ≤ 7
+  pub room : h .plan .n * cellCount (h .plan .n) ≤ length cells
+  pub rising : Rising text from
+
+-- The same of the cells, for board q.
+pub record Lent (h : Head) (cells : List ℕ) (q : ℕ) : Type 0 where
+  pub few : h .plan .n ≤ 7
+  pub room : h .plan .n * cellCount (h .plan .n) ≤ length cells
+  pub below : q < h .plan .n
 
 -- Stands past the end of the records.
 abbrev pub noRecord : Record
@@ -69,10 +80,10 @@ actAll h act fs f (suc k) st =
 unfoldable pub dealtFrame : Head → List ℕ
 dealtFrame h = let dealt = dealing (h .plan) (h .word) in cond (isTaken dealt) (dealt .values) []
 
--- The frame of board q outside F: the dealer's, or what writing into 121 bytes gives; nothing if it is refused.
+-- The frame of board q outside F: the dealer's, or what writing into a buffer with room for every frame gives; nothing if it is refused.
 unfoldable pub frameFrom : Head → ℕ → Board → List ℕ
 frameFrom h q b =
-    let wrote = sending b (replicate 121 0) in
+    let wrote = sending b (replicate frameRoom 0) in
     cond (eqb q (h .plan .dealer)) (dealtFrame h)
     (cond (isTaken (wrote .answer)) (take (getD (wrote .answer .values) 0 0) (wrote .out)) [])
 
@@ -87,7 +98,20 @@ unfoldable pub hearSenders : Head → List Frame → ℕ → Stage → Stage
 hearSenders h fs zero st = st
 hearSenders h fs (suc k) st = hearSender h fs k (hearSenders h fs k st)
 
--- All boards begin, then hear and close in j steps.
+-- One round of all boards: they hear all others and close.
+unfoldable pub playStep : Head → List Frame → Stage → Stage
+playStep h fs st = actAll h Close fs [] (h .plan .n) (hearSenders h fs (h .plan .n) st)
+
+-- The least key of a frame in step j; steps are the rounds over all runs, from 0.
+unfoldable pub stepKey : Plan → ℕ → ℕ
+stepKey p j = keyOf (stepRun p (suc j) .0) (stepRound p (suc j) .0) 0 0
+
+-- What is left of the frames when those before each of the first j steps are skipped, in turn.
+unfoldable pub framesLeft : Plan → ℕ → List Frame → List Frame
+framesLeft p zero fs = fs
+framesLeft p (suc j) fs = skipFrames (stepKey p j) (framesLeft p j fs)
+
+-- All boards begin, then hear and close in j steps, each with what is left of the frames.
 unfoldable pub playSteps : Head → List Frame → ℕ → Stage → Stage
 playSteps h fs zero st = actAll h Begin fs [] (h .plan .n) st
-playSteps h fs (suc j) st = actAll h Close fs [] (h .plan .n) (hearSenders h fs (h .plan .n) (playSteps h fs j st))
+playSteps h fs (suc j) st = playStep h (framesLeft (h .plan) (suc j) fs) (playSteps h fs j st)

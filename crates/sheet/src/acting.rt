@@ -1,8 +1,9 @@
 // What all boards of a session do in turn, each on its record and its part of the cells.
-use board::beginning::begin;
-use board::closing::close;
-use board::receiving::receive;
+use beginning::beginning::begin;
+use closing::closing::close;
+use exchange::receiving::receive;
 use plan::plan::Plan;
+use protocol::limits::FRAME;
 use protocol::records::Record;
 use reader::finding::Found;
 use reader::finding::read_frame;
@@ -10,18 +11,10 @@ use sets::boards::has;
 use text::head::Head;
 use tree::levels::cell_count;
 ghost use mathlib.Core.Path.{_≡_};
-ghost use mathlib.Core.Bool.{not, _&&_};
-ghost use Prim.Native.Nat.{_≤_, _<_, _*_};
-ghost use lib.Dec.{eqb};
-ghost use lib.ListN.{length};
-ghost use Rattle.sets.specs.Sets.{member};
-ghost use Rattle.plan.specs.Calls.{judged};
-ghost use Rattle.tree.specs.Places.{cellCount};
-ghost use Rattle.protocol.specs.Rounds.{Board};
 ghost use Rattle.protocol.specs.Session.{handIn};
 ghost use Rattle.protocol.specs.Playing.{findFrame};
-ghost use Rattle.reader.specs.Reading.{framesFrom};
-ghost use Rattle.sheet.specs.Stage.{Stage, Roomy, keeps, acted, actAll};
+ghost use Rattle.reader.specs.Reading.{framesFrom, Rising};
+ghost use Rattle.sheet.specs.Stage.{Ready, keeps, acted, actAll};
 
 // What a board does in its turn.
 pub enum Act {
@@ -47,11 +40,12 @@ fn is_keeper(head: Head, i: u8) -> bool
 
 // A board hears what the sheet has for it from the faulty board q.
 fn hear_faulty(text: &[u8], from: usize, q: u8, r: Record, cells: &mut [u8]) -> Record
+    requires { ⌜ Rising (now text) from ⌝ }
     ensures { λ x. ⌜ (x ≡ handIn q (findFrame (r .run) (r .round) q (r .board) (framesFrom (now (text .entry)) from)) (record { rec = r; cells = now (cells .entry) }) .rec) × (now (cells .exit) ≡ handIn q (findFrame (r .run) (r .round) q (r .board) (framesFrom (now (text .entry)) from)) (record { rec = r; cells = now (cells .entry) }) .cells) ⌝ }
 {
     let run = r.run;
     let round = r.round;
-    let mut values = [0u8; 121];
+    let mut values = [0u8; FRAME];
     match read_frame(text, from, run, round, q, r.board, &mut values) {
         Found::Missing => r,
         Found::Values(k) => {
@@ -72,6 +66,7 @@ fn act_one(
     r: Record,
     cells: &mut [u8],
 ) -> Record
+    requires { ⌜ Rising (now text) from ⌝ }
     ensures { λ x. ⌜ (x ≡ acted plan act (framesFrom (now (text .entry)) from) (now (frame .entry)) i (record { rec = r; cells = now (cells .entry) }) .rec) × (now (cells .exit) ≡ acted plan act (framesFrom (now (text .entry)) from) (now (frame .entry)) i (record { rec = r; cells = now (cells .entry) }) .cells) ⌝ }
 {
     match act {
@@ -101,7 +96,7 @@ pub fn act_all(
     records: [Record; 7],
     cells: &mut [u8],
 ) -> [Record; 7]
-    requires { ⌜ Roomy head (now cells) ⌝ }
+    requires { ⌜ Ready head (now cells) (now text) from ⌝ }
     ensures { λ r. ⌜ (r ≡ actAll head act (framesFrom (now (text .entry)) from) (now (frame .entry)) (head .plan .n) (record { recs = records; cells = now (cells .entry) }) .recs) × (now (cells .exit) ≡ actAll head act (framesFrom (now (text .entry)) from) (now (frame .entry)) (head .plan .n) (record { recs = records; cells = now (cells .entry) }) .cells) ⌝ }
 {
     let plan = head.plan;

@@ -1,6 +1,8 @@
 // Plays case 7 with cells and then with output one byte too short: writes both refusals and how many lent bytes changed.
 use libc::STDOUT_FILENO;
 use printer::printing::report;
+use protocol::limits::CELLS;
+use protocol::limits::OUTPUT;
 use sheet::playing::play;
 ghost use mathlib.Core.Path.{_≡_};
 ghost use mathlib.Core.Bool.{not};
@@ -26,10 +28,10 @@ fn count_others(bytes: &[u8], x: u8) -> usize
 
 fn main() {
     let text = b"0410000005040102040801\n0101000105\n0101000205\n0101000307\n";
-    let mut cells = [170u8; 13699];
-    let mut few_cells = [170u8; 13698];
-    let mut out = [85u8; 49];
-    let mut short_out = [85u8; 48];
+    let mut cells = [170u8; CELLS];
+    let mut few_cells = [170u8; CELLS - 1];
+    let mut out = [85u8; OUTPUT];
+    let mut short_out = [85u8; OUTPUT - 1];
     let mut shown = [0u8; 9];
     let few = play(text, &mut few_cells, &mut out);
     report(few, &mut shown);

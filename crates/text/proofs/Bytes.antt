@@ -17,10 +17,11 @@ use Rattle.sets.specs.Structure.{tolerated}
 use Rattle.sets.proofs.Tests.{cases, clash, or-right, true-not}
 use Rattle.plan.specs.Outcome.{Outcome, taken, refused}
 use Rattle.plan.specs.declared.plan.Plan.{Plan}
+use Rattle.plan.specs.declared.plan.Settings.{Settings}
 use Rattle.plan.specs.Calls.{andThen, planning, planned, judged}
 use Rattle.plan.proofs.Outcomes.{refused-first, both-taken, accepted, planned-judged}
 use Rattle.protocol.specs.Sheet.{digit, bytesOf, headOf, headPlan, judgeHead}
-use Rattle.text.specs.Text.{isGiven, isText, byteOf, byteAt, bytesFrom, headFrom}
+use Rattle.text.specs.Text.{isGiven, isText, byteOf, byteAt, bytesFrom, headFrom, lineSettings}
 use Rattle.text.proofs.Digits.{digit-small, join-inv, byte-of, byte-short}
 
 module _ (line : List ℕ) where
@@ -102,7 +103,7 @@ module _ (line : List ℕ) where
   -- Its judgement, with the sets and the faulty boards in hand.
   abbrev pub judgement : ℕ → Outcome
   judgement top =
-      andThen (planning (byteAt line 0) (byteAt line 5) (bytesFrom line 6 (byteAt line 5)) (byteAt line 2) (byteAt line 1) (byteAt line 3))
+      andThen (planning (byteAt line 0) (byteAt line 5) (bytesFrom line 6 (byteAt line 5)) (lineSettings line))
       (andThen (cond (leb (byteAt line 1) (byteAt line 4)) (refused 18) (taken []))
       (cond (within (byteAt line (byteAt line 5 + 6)) (boards top) && tolerated (bytesFrom line 6 (byteAt line 5)) (byteAt line (byteAt line 5 + 6))) (taken []) (refused 23)))
 
@@ -110,9 +111,9 @@ module _ (line : List ℕ) where
   eight : judgement (byteAt line 0) ≡ judgement (min (byteAt line 0) 8)
   eight =
       let n = byteAt line 0 in
-      let first = planning n (byteAt line 5) (bytesFrom line 6 (byteAt line 5)) (byteAt line 2) (byteAt line 1) (byteAt line 3) in
+      let first = planning n (byteAt line 5) (bytesFrom line 6 (byteAt line 5)) (lineSettings line) in
       cases (eqb (first .number) 0)
-      (λ x. let few = accepted n (byteAt line 5) (bytesFrom line 6 (byteAt line 5)) (byteAt line 2) (byteAt line 1) (byteAt line 3) (eqb-true (first .number) 0 x) .admission .most-boards in
+      (λ x. let few = accepted n (byteAt line 5) (bytesFrom line 6 (byteAt line 5)) (lineSettings line) (eqb-true (first .number) 0 x) .admission .most-boards in
       ap judgement (let z : n ≡ min n 8 = omega arith in z))
       (λ x. let no = eqb-false (first .number) 0 x in refused-first first _ no ∙ sym (refused-first first _ no))
 
@@ -127,14 +128,14 @@ module _ (line : List ℕ) where
       rw (t, all-at 0, all-at 1, all-at 2, all-at 3, all-at 4, all-at 5, sets-are e, six) eight
 
   -- What the code has in hand of a head of the right length.
-  pub head-judged : (n m d b v s f : ℕ) (sets : List ℕ) → n ≡ byteAt line 0 → m ≡ byteAt line 1 → d ≡ byteAt line 2 → b ≡ byteAt line 3 → v ≡ byteAt line 4
+  pub head-judged : (n v s f : ℕ) (settings : Settings) (sets : List ℕ) → n ≡ byteAt line 0 → settings ≡ lineSettings line → v ≡ byteAt line 4
       → s ≡ byteAt line 5 → f ≡ byteAt line (s + 6) → sets ≡ bytesFrom line 6 s → length line / 2 ≡ s + 6 + 1
-      → andThen (planning n (length sets) sets d m b)
-      (andThen (cond (leb m v) (refused 18) (taken [])) (cond (within f (boards (min n 8)) && tolerated sets f) (taken []) (refused 23))) ≡ judgeHead all
-  head-judged n m d b v s f sets en em ed eb ev es ef esets e =
+      → andThen (planning n (length sets) sets settings)
+      (andThen (cond (leb (settings .span) v) (refused 18) (taken [])) (cond (within f (boards (min n 8)) && tolerated sets f) (taken []) (refused 23))) ≡ judgeHead all
+  head-judged n v s f settings sets en em ev es ef esets e =
       let sets′ = esets ∙ ap (bytesFrom line 6) es in
       let f′ = ef ∙ ap (λ x. byteAt line (x + 6)) es in
-      rw (f′, sets′, bytes-length 6 (byteAt line 5), en, em, ed, eb, ev) (sym (head-right (e ∙ ap (λ x. x + 6 + 1) es)))
+      rw (f′, sets′, bytes-length 6 (byteAt line 5), en, em, ev) (sym (head-right (e ∙ ap (λ x. x + 6 + 1) es)))
 
   -- The part of the slots that holds the sets.
   pub slots-part : (k : ℕ) (sets : List ℕ) → sets ≡ slots k → take (k - 0) sets ≡ bytesFrom line 6 k
@@ -142,12 +143,11 @@ module _ (line : List ℕ) where
       ap₂ take (let z : k - 0 ≡ k = omega arith in z) e ∙ take-at (bytesFrom line 6 k) (replicate (255 - k) 0) k (bytes-length 6 k)
 
   -- The head as the code makes it.
-  pub head-made : (n m d b v s f : ℕ) (sets : List ℕ) (p : Plan) → n ≡ byteAt line 0 → m ≡ byteAt line 1 → d ≡ byteAt line 2 → b ≡ byteAt line 3
-      → v ≡ byteAt line 4 → s ≡ byteAt line 5 → f ≡ byteAt line (s + 6) → sets ≡ bytesFrom line 6 s → p ≡ planned n sets d m b
+  pub head-made : (n v s f : ℕ) (settings : Settings) (sets : List ℕ) (p : Plan) → n ≡ byteAt line 0 → settings ≡ lineSettings line
+      → v ≡ byteAt line 4 → s ≡ byteAt line 5 → f ≡ byteAt line (s + 6) → sets ≡ bytesFrom line 6 s → p ≡ planned n sets settings
       → record { plan = p; faulty = f; word = v } ≡ headFrom line
   unfolding headFrom
-  head-made n m d b v s f sets p en em ed eb ev es ef esets ep =
-      rw (ep, ef, esets, es, en, em, ed, eb, ev) refl
+  head-made n v s f settings sets p en em ev es ef esets ep = rw (ep, ef, esets, es, en, em, ev) refl
 
   -- The head by its bytes is the head by the line's digits.
   pub head-parts : length line / 2 ≡ byteAt line 5 + 6 + 1
@@ -169,11 +169,11 @@ module _ (line : List ℕ) where
   unfolding headFrom
   head-accepted e =
       let sets = bytesFrom line 6 (byteAt line 5) in
-      let first = planning (byteAt line 0) (byteAt line 5) sets (byteAt line 2) (byteAt line 1) (byteAt line 3) in
+      let first = planning (byteAt line 0) (byteAt line 5) sets (lineSettings line) in
       let (ok, _) = both-taken first _ (ap (λ o. o .number) (sym (head-right (head-sized e))) ∙ e) in
-      let good : planning (byteAt line 0) (length sets) sets (byteAt line 2) (byteAt line 1) (byteAt line 3) .number ≡ 0 =
-      ap (λ k. planning (byteAt line 0) k sets (byteAt line 2) (byteAt line 1) (byteAt line 3) .number) (bytes-length 6 (byteAt line 5)) ∙ ok in
-      ap (λ o. o .number) (planned-judged (byteAt line 0) sets (byteAt line 2) (byteAt line 1) (byteAt line 3) good) ∙ good
+      let good : planning (byteAt line 0) (length sets) sets (lineSettings line) .number ≡ 0 =
+      ap (λ k. planning (byteAt line 0) k sets (lineSettings line) .number) (bytes-length 6 (byteAt line 5)) ∙ ok in
+      ap (λ o. o .number) (planned-judged (byteAt line 0) sets (lineSettings line) good) ∙ good
 
 -- The bytes of a line of digits.
 bytes-size : (line bytes : List ℕ) → bytesOf line ≡ some bytes → length bytes ≡ length line / 2

@@ -4,6 +4,7 @@ use mathlib.Core.Bool.{Bool, true, false}
 use mathlib.Core.List.{List, [], _∷_}
 use mathlib.Core.Option.{Option, some, none, Option·getD}
 use lib.ListN.{getD}
+use Rattle.plan.specs.declared.plan.Settings.{Settings}
 use Rattle.plan.specs.Calls.{planned}
 use Rattle.protocol.specs.Sheet.{digit, bytesOf}
 use Rattle.text.specs.declared.head.Head.{Head}
@@ -34,12 +35,16 @@ unfoldable pub bytesFrom : List ℕ → ℕ → ℕ → List ℕ
 bytesFrom line i zero = []
 bytesFrom line i (suc k) = byteAt line i ∷ bytesFrom line (suc i) k
 
+-- The settings that a head's line names.
+abbrev pub lineSettings : List ℕ → Settings
+lineSettings line = record { dealer = byteAt line 2; span = byteAt line 1; depth = byteAt line 3 }
+
 -- What playing needs of a head, by its bytes.
 unfoldable pub headFrom : List ℕ → Head
 headFrom line =
     let s = byteAt line 5 in
     record {
-      plan = planned (byteAt line 0) (bytesFrom line 6 s) (byteAt line 2) (byteAt line 1) (byteAt line 3);
+      plan = planned (byteAt line 0) (bytesFrom line 6 s) (lineSettings line);
       faulty = byteAt line (s + 6);
       word = byteAt line 4;
     }

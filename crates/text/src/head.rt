@@ -1,6 +1,7 @@
 // The head of a sheet: n, m, d, b, the dealer's value, s, then s sets, then the faulty boards.
 use crate::lines::byte_at;
 use plan::plan::Plan;
+use plan::plan::Settings;
 use plan::refusal::Refusal;
 use plan::refusal::Verdict;
 use plan::refusal::first_of;
@@ -17,7 +18,7 @@ ghost use Rattle.sets.specs.Sets.{within, boards};
 ghost use Rattle.sets.specs.Structure.{tolerated};
 ghost use Rattle.plan.specs.Outcome.{taken, refused, verdict};
 ghost use Rattle.protocol.specs.Sheet.{judgeHead};
-ghost use Rattle.text.specs.Text.{bytesFrom, headFrom};
+ghost use Rattle.text.specs.Text.{bytesFrom, lineSettings, headFrom};
 
 // The sets of a head, in 255 slots.
 fn sets_of(line: &[u8], count: u8) -> [u8; 255]
@@ -30,6 +31,20 @@ fn sets_of(line: &[u8], count: u8) -> [u8; 255]
         k += 1;
     }
     sets
+}
+
+// The settings that a head's line names.
+fn settings_of(line: &[u8]) -> Settings
+    ensures { λ r. ⌜ r ≡ lineSettings (now (line .entry)) ⌝ }
+{
+    let dealer = byte_at(line, 2);
+    let span = byte_at(line, 1);
+    let depth = byte_at(line, 3);
+    Settings {
+        dealer: dealer,
+        span: span,
+        depth: depth,
+    }
 }
 
 // The dealer's value: 18.
@@ -71,13 +86,8 @@ pub fn head_of(line: &[u8]) -> Head
 {
     let count = byte_at(line, 5);
     let sets = sets_of(line, count);
-    let planned = Plan::new(
-        byte_at(line, 0),
-        &sets[0..count as usize],
-        byte_at(line, 2),
-        byte_at(line, 1),
-        byte_at(line, 3),
-    );
+    let settings = settings_of(line);
+    let planned = Plan::new(byte_at(line, 0), &sets[0..count as usize], settings);
     let plan = planned.plan;
     let faulty = byte_at(line, count as usize + 6);
     let word = byte_at(line, 4);
@@ -100,16 +110,10 @@ pub fn judge_head(line: &[u8]) -> Verdict
     }
     let sets = sets_of(line, count);
     let n = byte_at(line, 0);
-    let span = byte_at(line, 1);
-    let planned = Plan::new(
-        n,
-        &sets[0..count as usize],
-        byte_at(line, 2),
-        span,
-        byte_at(line, 3),
-    );
+    let settings = settings_of(line);
+    let planned = Plan::new(n, &sets[0..count as usize], settings);
     let plan = planned.answer;
-    let word = judge_word(span, byte_at(line, 4));
+    let word = judge_word(settings.span, byte_at(line, 4));
     let faulty = judge_faulty(n, &sets[0..count as usize], byte_at(line, last));
     first_of(plan, first_of(word, faulty))
 }

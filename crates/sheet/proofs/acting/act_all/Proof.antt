@@ -41,8 +41,8 @@ mul-a c =
     let a = s .args in
     let l = c .before .before .before .loop in
     let z = c .before .before .before .before .cell-count in
-    let y : z .result ≡ cellCount (a.head .plan .n) = z .ensures ∙ count-within (a.head .plan .n) (omega arith) (s .pre .0) in
-    let k : (a.head .plan .n) * z .result ≤ length (a.cells .now) = subst (λ x. (a.head .plan .n) * x ≤ length (a.cells .now)) (sym y) (s .pre .1) in
+    let y : z .result ≡ cellCount (a.head .plan .n) = z .ensures ∙ count-within (a.head .plan .n) (omega arith) (s .pre .few) in
+    let k : (a.head .plan .n) * z .result ≤ length (a.cells .now) = subst (λ x. (a.head .plan .n) * x ≤ length (a.cells .now)) (sym y) (s .pre .room) in
     record { fits = omega (arith, parts-within l.i (a.head .plan .n) (z .result) (omega arith), k) }
 
 add-e : tie.Need-add-e Inv-loop μ-loop
@@ -51,8 +51,8 @@ add-e c =
     let a = s .args in
     let l = c .before .before .before .loop in
     let z = c .before .before .before .before .cell-count in
-    let y : z .result ≡ cellCount (a.head .plan .n) = z .ensures ∙ count-within (a.head .plan .n) (omega arith) (s .pre .0) in
-    let k : (a.head .plan .n) * z .result ≤ length (a.cells .now) = subst (λ x. (a.head .plan .n) * x ≤ length (a.cells .now)) (sym y) (s .pre .1) in
+    let y : z .result ≡ cellCount (a.head .plan .n) = z .ensures ∙ count-within (a.head .plan .n) (omega arith) (s .pre .few) in
+    let k : (a.head .plan .n) * z .result ≤ length (a.cells .now) = subst (λ x. (a.head .plan .n) * x ≤ length (a.cells .now)) (sym y) (s .pre .room) in
     record { fits = omega (arith, parts-within l.i (a.head .plan .n) (z .result) (omega arith), k) }
 
 cast-r : tie.Need-cast-r Inv-loop μ-loop
@@ -76,8 +76,8 @@ part-act-one-end c =
     let a = s .args in
     let l = c .before .before .before .before .loop in
     let z = c .before .before .before .before .before .cell-count in
-    let y : z .result ≡ cellCount (a.head .plan .n) = z .ensures ∙ count-within (a.head .plan .n) (omega arith) (s .pre .0) in
-    let k : (a.head .plan .n) * z .result ≤ length (a.cells .now) = subst (λ x. (a.head .plan .n) * x ≤ length (a.cells .now)) (sym y) (s .pre .1) in
+    let y : z .result ≡ cellCount (a.head .plan .n) = z .ensures ∙ count-within (a.head .plan .n) (omega arith) (s .pre .few) in
+    let k : (a.head .plan .n) * z .result ≤ length (a.cells .now) = subst (λ x. (a.head .plan .n) * x ≤ length (a.cells .now)) (sym y) (s .pre .room) in
     omega (arith, parts-within l.i (a.head .plan .n) (z .result) (omega arith), k, l .inv .2)
 
 act-one-requires : tie.Need-act-one-requires Inv-loop μ-loop
@@ -103,7 +103,7 @@ loop-again c = let s = c .before .before .before .before .before .before .before
     let a = s .args in
     let l = c .before .before .before .loop in
     let z = c .before .before .before .before .cell-count in
-    let y : z .result ≡ cellCount (a.head .plan .n) = z .ensures ∙ count-within (a.head .plan .n) (omega arith) (s .pre .0) in
+    let y : z .result ≡ cellCount (a.head .plan .n) = z .ensures ∙ count-within (a.head .plan .n) (omega arith) (s .pre .few) in
     let fs = framesFrom (a.text .now) a.from in
     let t : Stage = record { recs = a.records; cells = a.cells .now } in
     let test = c .before .is-keeper .ensures in

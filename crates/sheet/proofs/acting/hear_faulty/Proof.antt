@@ -4,6 +4,7 @@ use Prim.Native.Nat.{_-_}
 use mathlib.Core.Path.{sym, ap, _∙_}
 use native.Mathlib.Omega.{arith}
 use lib.ListN.{take}
+use Rattle.protocol.specs.Limits.{frameRoom}
 use Rattle.protocol.specs.Rounds.{Board}
 use Rattle.protocol.specs.Calls.{receiving}
 use Rattle.protocol.specs.Playing.{findFrame}
@@ -39,7 +40,7 @@ part-receive-end c =
     let d = c .before .before .before .before .before .before .read-frame in
     let k = c .before .before .before .k .given .0 .0 in
     let e = ap foundSays (sym (c .before .before .before .k .given .1)) ∙ d .ensures .0 in
-    omega (arith, read-fits v 121 k e)
+    omega (arith, read-fits v frameRoom k e)
 
 receive-requires : tie.Need-receive-requires
 receive-requires c κs = search needs
@@ -51,7 +52,7 @@ returns c =
     let v = findFrame (a.r .run) (a.r .round) a.q (a.r .board) (framesFrom (a.text .now) a.from) in
     let d = c .before .before .before .read-frame in
     let b : Board = record { rec = a.r; cells = a.cells .now } in
-    let e = read-missing v 121 a.q b (ap foundSays (sym (c .enum-told .given .1)) ∙ d .ensures .0) in
+    let e = read-missing v frameRoom a.q b (ap foundSays (sym (c .enum-told .given .1)) ∙ d .ensures .0) in
     (ap (λ (x : Board). x .rec) e, ap (λ (x : Board). x .cells) e)
 
 same-length : tie.Need-same-length

@@ -13,9 +13,9 @@ use Rattle.protocol.specs.Playing.{Play}
 use Rattle.text.specs.Text.{headFrom}
 use Rattle.reader.specs.Reading.{framesFrom}
 use Rattle.reader.proofs.Accepted.{sheet-ended, sheet-head, sheet-frames}
-use Rattle.sheet.specs.Stage.{Stage, Roomy, playSteps}
+use Rattle.sheet.specs.Stage.{Stage, Ready, playSteps}
 use Rattle.sheet.proofs.Stages.{codeHead}
-use Rattle.sheet.proofs.Whole.{head-roomy, sheet-played}
+use Rattle.sheet.proofs.Whole.{head-ready, sheet-played}
 use borrow.Author.Needs.{needs}
 use Rattle.sheet.proofs.playing.play_sheet.Statement.{statement}
 use Rattle.sheet.proofs.playing.play_sheet.Tie as tie
@@ -50,7 +50,9 @@ play-rounds-requires c κs =
     let a = s .args in
     let end = c .before .before .before .line-end in
     let eh = c .before .head-of .ensures ∙ ap (λ k. headFrom (take (k - 0) (drop 0 (a.text .now)))) (end .ensures) ∙ sheet-head (a.text .now) (s .pre .0) in
-    subst (λ x. Roomy x (a.cells .now)) (sym eh) (head-roomy (a.text .now) (a.cells .now) (a.out .now) (s .pre .0) (s .pre .1) (s .pre .2))
+    subst (λ x. Ready x (a.cells .now) (a.text .now) (end .result + 1)) (sym eh)
+    (subst (λ k. Ready (codeHead (reading (a.text .now) .head)) (a.cells .now) (a.text .now) (k + 1)) (sym (end .ensures))
+    (head-ready (a.text .now) (a.cells .now) (a.out .now) (s .pre .0) (s .pre .1) (s .pre .2)))
 
 print-boards-requires : tie.Need-print-boards-requires
 print-boards-requires c κs = search needs

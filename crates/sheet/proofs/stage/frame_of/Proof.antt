@@ -5,6 +5,7 @@ use mathlib.Core.Path.{sym, ap, _∙_}
 use native.Mathlib.Omega.{arith}
 use lib.ListN.{length, take, length-replicate}
 use Rattle.plan.proofs.Outcomes.{refusal-number}
+use Rattle.protocol.specs.Limits.{frameRoom}
 use Rattle.protocol.specs.Answers.{sentSays}
 use Rattle.protocol.specs.Rounds.{Board}
 use Rattle.sheet.proofs.Sender.{sending-fits, from-dealer, from-sender, from-nobody}
@@ -13,7 +14,7 @@ use Rattle.sheet.proofs.stage.frame_of.Statement.{statement}
 use Rattle.sheet.proofs.stage.frame_of.Tie as tie
 
 dealer-frame-requires : tie.Need-dealer-frame-requires
-dealer-frame-requires c κs = let e = ap length (c .before .before .before .before .pre) ∙ length-replicate {A = ℕ} 121 0 in omega (arith, e)
+dealer-frame-requires c κs = let e = ap length (c .before .before .before .before .pre) ∙ length-replicate {A = ℕ} frameRoom 0 in omega (arith, e)
 
 same-length : tie.Need-same-length
 same-length c = search needs
@@ -45,7 +46,7 @@ returns-2 c =
     let d = c .before .before .before .before .before .send in
     let b : Board = record { rec = a.r; cells = a.cells .now } in
     let e = ap sentSays (sym (c .before .k .given .1)) ∙ d .ensures .0 in
-    let size = ap length (s .pre) ∙ length-replicate {A = ℕ} 121 0 in
+    let size = ap length (s .pre) ∙ length-replicate {A = ℕ} frameRoom 0 in
     (omega (arith, size, sending-fits b (a.frame .now) k (sym e)), ap (take k) (d .ensures .1) ∙ from-sender a.head a.q b k (a.frame .now) (c .before .before .before .before .before .before .before .if1 .left) (s .pre) e)
 
 same-length-3 : tie.Need-same-length-3

@@ -26,7 +26,7 @@ hear-sender-requires : tie.Need-hear-sender-requires Inv-loop μ-loop
 hear-sender-requires c κs =
     let s = c .before .before .before .before .before in
     let l = c .before .before .loop in
-    ((s .pre .0, omega (arith, s .pre .1, l .inv .2)), omega arith)
+    (record { few = s .pre .few; room = omega (arith, s .pre .room, l .inv .2); rising = s .pre .rising }, omega arith)
 
 add-q : tie.Need-add-q Inv-loop μ-loop
 add-q c = search needs

@@ -11,8 +11,8 @@ use Rattle.text.proofs.Bytes.{head-accepted}
 use Rattle.reader.specs.Reading.{judgeLines}
 use Rattle.reader.proofs.WholeSheet.{sheet-begun, sheet-said, sheet-far, sheet-answer}
 use borrow.Author.Needs.{needs}
-use Rattle.reader.proofs.judging.judge_sheet.Statement.{statement}
-use Rattle.reader.proofs.judging.judge_sheet.Tie as tie
+use Rattle.reader.proofs.judgement.judge_sheet.Statement.{statement}
+use Rattle.reader.proofs.judgement.judge_sheet.Tie as tie
 
 line-end-requires : tie.Need-line-end-requires
 line-end-requires c κs = search needs

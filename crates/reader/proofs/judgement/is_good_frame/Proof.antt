@@ -8,8 +8,8 @@ use Rattle.text.specs.Text.{byteAt}
 use Rattle.reader.specs.Reading.{lineKey, expected}
 use Rattle.reader.proofs.FrameLines.{line-short, line-falls, line-healthy, line-faulty, line-rest}
 use borrow.Author.Needs.{needs}
-use Rattle.reader.proofs.judging.is_good_frame.Statement.{statement}
-use Rattle.reader.proofs.judging.is_good_frame.Tie as tie
+use Rattle.reader.proofs.judgement.is_good_frame.Statement.{statement}
+use Rattle.reader.proofs.judgement.is_good_frame.Tie as tie
 
 byte-at-requires : tie.Need-byte-at-requires
 byte-at-requires c κs = search needs

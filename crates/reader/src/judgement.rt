@@ -1,12 +1,11 @@
 // Judging a sheet whole, line by line.
 use crate::keys::key_of;
-use frames::frame::is_due;
+use frames::sending::is_due;
 use plan::plan::Plan;
 use plan::refusal::Refusal;
 use plan::refusal::Verdict;
 use plan::schedule::Round;
 use plan::schedule::Run;
-use protocol::records::Record;
 use sets::boards::has;
 use text::head::head_of;
 use text::head::judge_head;
@@ -45,17 +44,8 @@ fn is_expected(plan: Plan, run: Run, round: Round, sender: u8, receiver: u8) -> 
     if receiver == dealer {
         return false;
     }
-    let r = Record {
-        plan: plan,
-        board: receiver,
-        run: run,
-        round: round,
-        detected: 0,
-        taken: 0,
-        decided: false,
-        decision: 0,
-    };
-    is_due(r, sender)
+    let holders = plan.holders();
+    is_due(plan, &holders, sender, receiver, round)
 }
 
 // A frame line: 24.

@@ -11,8 +11,8 @@ use Rattle.protocol.specs.Sheet.{lines, wrongAt}
 use Rattle.text.proofs.LineEnds.{stop-ge, stop-le}
 use Rattle.reader.specs.Reading.{judgedSays, lineKey, judgeLines}
 use Rattle.reader.proofs.FrameLines.{at-end, at-open, at-other, at-wrong, at-good, key-below}
-use Rattle.reader.proofs.judging.judge_frames.Statement.{statement}
-use Rattle.reader.proofs.judging.judge_frames.Tie as tie
+use Rattle.reader.proofs.judgement.judge_frames.Statement.{statement}
+use Rattle.reader.proofs.judgement.judge_frames.Tie as tie
 
 abbrev Inv-loop : tie.InvT-loop
 Inv-loop text plan faulty from at₀ line₀ least₀ at line least =

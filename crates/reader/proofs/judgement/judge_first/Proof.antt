@@ -9,8 +9,8 @@ use Rattle.plan.specs.Outcome.{refusal, verdict}
 use Rattle.text.proofs.LineEnds.{stop-le}
 use Rattle.reader.proofs.FrameLines.{top-none, top-open, top-other, top-good}
 use borrow.Author.Needs.{needs}
-use Rattle.reader.proofs.judging.judge_first.Statement.{statement}
-use Rattle.reader.proofs.judging.judge_first.Tie as tie
+use Rattle.reader.proofs.judgement.judge_first.Statement.{statement}
+use Rattle.reader.proofs.judgement.judge_first.Tie as tie
 
 returns : tie.Need-returns
 unfolding verdict refusal
