@@ -9,16 +9,18 @@ use native.Mathlib.Omega.{arith}
 use lib.Dec.{eqb, leb}
 use lib.ListN.{length, drop, replicate}
 use borrow.Author.Tests.{ne-eqb, eqb-true, eqb-false}
+use Rattle.codec.specs.Codec.{encode}
 use Rattle.sets.proofs.Tests.{cases}
 use Rattle.plan.specs.declared.plan.Plan.{Plan}
-use Rattle.plan.specs.Outcome.{Outcome, taken, refused}
-use Rattle.plan.specs.Calls.{andThen, judged}
-use Rattle.plan.proofs.Outcomes.{taken-first, refused-first, both-taken}
+use Rattle.refusals.specs.Outcome.{Outcome, taken, refused, andThen}
+use Rattle.plan.specs.Calls.{judged}
+use Rattle.refusals.proofs.Outcomes.{taken-first, refused-first, both-taken}
 use Rattle.tree.specs.Places.{cellCount}
 use Rattle.tree.specs.Cells.{blank}
 use Rattle.protocol.specs.Calls.{isTaken, judgeBoard, judgeBeginning, beginning, freshRecord, voidRecord, dealing}
 use Rattle.protocol.proofs.Judgement.{cells-facts}
 use Rattle.judging.proofs.Judged.{roomed, room-judged, then-same, Leaves, leaves}
+use Rattle.protocol.specs.Rounds.{boardWith}
 
 -- Beginning
 
@@ -30,7 +32,7 @@ module _ (p : Plan) (i : ℕ) (cells : List ℕ) where
   pub begin-refused : (o : Outcome) → o ≡ judgeBeginning p i cells → o .number ≢ 0 → Leaves (beginning p i cells) o voidRecord cells
   unfolding beginning isTaken
   begin-refused o e ne =
-      leaves (beginning p i cells) o (record { rec = voidRecord; cells = cells }) (rw (sym e, ne-eqb (o .number) 0 ne) refl)
+      leaves (beginning p i cells) o (boardWith voidRecord cells) (rw (sym e, ne-eqb (o .number) 0 ne) refl)
 
   pub begin-taken : taken [] ≡ judgeBeginning p i cells
       → Leaves (beginning p i cells) (taken []) (freshRecord p i) (replicate (cellCount (p .n)) blank ++ drop (cellCount (p .n)) cells)
@@ -56,7 +58,7 @@ module _ (p : Plan) (v : ℕ) where
   deal-high h e = (taken-first (judged p) valued e ∙ rw h refl, taken-first (judged p) _ e ∙ rw h refl)
 
   deal-low : leb (p .span) v ≡ false → judged p .number ≡ 0 → (andThen (judged p) valued ≡ taken []) × (dealing p v ≡ taken (v ∷ []))
-  unfolding dealing
+  unfolding dealing encode
   deal-low h e = (taken-first (judged p) valued e ∙ rw h refl, taken-first (judged p) _ e ∙ rw h refl)
 
   deal-bad : judged p .number ≢ 0 → (andThen (judged p) valued ≡ judged p) × (dealing p v ≡ judged p)

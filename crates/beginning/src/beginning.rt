@@ -1,16 +1,17 @@
 // Beginning a board.
 use crate::cells::clear;
+use codec::value::Value;
 use judging::judging::judge_cells;
 use judging::judging::judge_number;
 use plan::plan::Plan;
-use plan::refusal::Verdict;
-use plan::refusal::first_of;
-use plan::schedule::Round;
-use plan::schedule::Run;
 use protocol::answers::Begun;
 use protocol::records::Record;
+use refusals::refusal::Verdict;
+use refusals::refusal::first_of;
+use schedule::rounds::Round;
+use schedule::rounds::Run;
 ghost use mathlib.Core.Path.{_≡_};
-ghost use Rattle.plan.specs.Outcome.{verdict};
+ghost use Rattle.refusals.specs.Outcome.{verdict};
 ghost use Rattle.protocol.specs.Calls.{freshRecord, voidRecord, judgeBeginning, beginning};
 
 // The record of a board that begins.
@@ -51,7 +52,7 @@ pub fn void() -> Record
 }
 
 // 1 to 8, then 9, 10, 11.
-fn judge_begin(plan: Plan, board: u8, cells: &[u8]) -> Verdict
+fn judge_begin(plan: Plan, board: u8, cells: &[Value]) -> Verdict
     ensures { λ v. ⌜ verdict v ≡ judgeBeginning plan board (now (cells .entry)) ⌝ }
 {
     let plan_judged = plan.judge();
@@ -61,7 +62,7 @@ fn judge_begin(plan: Plan, board: u8, cells: &[u8]) -> Verdict
 }
 
 // Beginning a board.
-pub fn begin(plan: Plan, board: u8, cells: &mut [u8]) -> Begun
+pub fn begin(plan: Plan, board: u8, cells: &mut [Value]) -> Begun
     ensures { λ r. ⌜ (verdict (r .answer) ≡ beginning plan board (now (cells .entry)) .answer) × (r .rec ≡ beginning plan board (now (cells .entry)) .board .rec) × (now (cells .exit) ≡ beginning plan board (now (cells .entry)) .board .cells) ⌝ }
 {
     match judge_begin(plan, board, cells) {

@@ -1,4 +1,5 @@
 // The cells of a board as a whole.
+use codec::value::Value;
 use plan::plan::Plan;
 use tree::levels::cell_count;
 ghost use mathlib.Core.Path.{_≡_};
@@ -11,7 +12,7 @@ ghost use Rattle.tree.specs.Cells.{blank};
 ghost use Rattle.protocol.specs.Rounds.{rootOnly};
 
 // All cells of a board hold FF; surplus cells stay.
-pub fn clear(plan: Plan, cells: &mut [u8])
+pub fn clear(plan: Plan, cells: &mut [Value])
     requires { ⌜ (judged plan .number ≡ 0) × (cellCount (plan .n) ≤ length (now cells)) ⌝ }
     ensures { λ _. ⌜ now (cells .exit) ≡ replicate (cellCount (plan .n)) blank ++ drop (cellCount (plan .n)) (now (cells .entry)) ⌝ }
 {
@@ -24,7 +25,7 @@ pub fn clear(plan: Plan, cells: &mut [u8])
 }
 
 // The root becomes the first cell, all other cells of the board hold FF.
-pub fn keep_root(plan: Plan, root: u8, cells: &mut [u8])
+pub fn keep_root(plan: Plan, root: Value, cells: &mut [Value])
     requires { ⌜ (judged plan .number ≡ 0) × (cellCount (plan .n) ≤ length (now cells)) ⌝ }
     ensures { λ _. ⌜ now (cells .exit) ≡ rootOnly (plan .n) root (now (cells .entry)) ⌝ }
 {

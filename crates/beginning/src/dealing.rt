@@ -1,19 +1,20 @@
 // The dealer's frame.
+use codec::value::Value;
 use plan::plan::Plan;
-use plan::refusal::Refusal;
-use plan::refusal::Verdict;
-use plan::refusal::first_of;
 use protocol::answers::Dealt;
+use refusals::refusal::Refusal;
+use refusals::refusal::Verdict;
+use refusals::refusal::first_of;
 ghost use mathlib.Core.Path.{_≡_};
 ghost use mathlib.Core.Bool.{cond};
 ghost use mathlib.Core.List.{[]};
 ghost use lib.Dec.{leb};
-ghost use Rattle.plan.specs.Outcome.{taken, refused, verdict};
+ghost use Rattle.refusals.specs.Outcome.{taken, refused, verdict};
 ghost use Rattle.protocol.specs.Answers.{dealtSays};
 ghost use Rattle.protocol.specs.Calls.{dealing};
 
 // The value: 18.
-fn judge_value(plan: Plan, value: u8) -> Verdict
+fn judge_value(plan: Plan, value: Value) -> Verdict
     ensures { λ v. ⌜ verdict v ≡ cond (leb (plan .span) value) (refused 18) (taken []) ⌝ }
 {
     let span = plan.span;
@@ -24,7 +25,7 @@ fn judge_value(plan: Plan, value: u8) -> Verdict
 }
 
 // The dealer's frame: 1 to 8, then 18.
-pub fn deal(plan: Plan, value: u8) -> Dealt
+pub fn deal(plan: Plan, value: Value) -> Dealt
     ensures { λ r. ⌜ dealtSays r ≡ dealing plan value ⌝ }
 {
     let plan_judged = plan.judge();

@@ -1,18 +1,44 @@
 // Plays the sheet on standard input; prints the lines of the boards outside F, or the refusal.
+mod input;
+
+use codec::value::Value;
+use input::read_sheet;
+use libc::STDERR_FILENO;
 use libc::STDOUT_FILENO;
 use printer::printing::report;
 use protocol::limits::CELLS;
 use protocol::limits::OUTPUT;
 use protocol::limits::SHEET;
 use sheet::playing::play;
+ghost use mathlib.Core.Path.{_≡_};
+ghost use mathlib.Core.Bool.{cond};
+ghost use mathlib.Core.List.{[]};
+ghost use Prim.Native.Nat.{_≤_};
+ghost use lib.Dec.{ltb};
+ghost use lib.ListN.{length, take};
+ghost use Rattle.protocol.specs.Playing.{benchPrints};
+
+// What is printed for a sheet: how many bytes of the output. Nothing if a refusal does not fit.
+fn print_sheet(text: &[u8], cells: &mut [Value], out: &mut [u8]) -> usize
+    ensures { λ r. ⌜ (r ≤ length (now (out .exit))) × (take r (now (out .exit)) ≡ cond (ltb (length (now (out .entry))) 9) [] (benchPrints (now (text .entry)) (now (cells .entry)) (now (out .entry)))) ⌝ }
+{
+    let answer = play(text, cells, out);
+    report(answer, out)
+}
 
 fn main() {
     // One byte above the longest sheet, so that a longer one is told from it.
     let mut text = [0u8; SHEET + 1];
     let mut cells = [255u8; CELLS];
     let mut out = [0u8; OUTPUT];
-    let length = io::read_full(0, &mut text);
-    let answer = play(&text[0..length], &mut cells, &mut out);
-    let k = report(answer, &mut out);
-    io::write_all(STDOUT_FILENO, &out[0..k]);
+    let arrival = read_sheet(&mut text);
+    if arrival.failed {
+        io::write_all(STDERR_FILENO, b"bench: a read from standard input failed\n");
+        return;
+    }
+    let length = arrival.count;
+    let k = print_sheet(&text[0..length], &mut cells, &mut out);
+    if !io::write_all(STDOUT_FILENO, &out[0..k]) {
+        io::write_all(STDERR_FILENO, b"bench: a write to standard output failed\n");
+    }
 }

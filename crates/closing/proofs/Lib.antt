@@ -1,2 +1,2 @@
-pub mod Answers
-pub mod Gathering
+mod Answers
+mod Converting

@@ -1,86 +1,30 @@
 // Closing a round.
 use beginning::cells::keep_root;
+use codec::value::Value;
 use conversion::converting::convert_cells;
-use detection::rule_g::detect_cells;
-use frames::gathering::copy_own;
-use frames::gathering::fill_missing;
+use gathering::gathering::gather_round;
 use judging::judging::judge_open;
-use plan::plan::Plan;
-use plan::refusal::Verdict;
-use plan::schedule::Round;
-use plan::schedule::Run;
 use protocol::answers::Closed;
 use protocol::answers::Closing;
 use protocol::records::Record;
-use sets::boards::has;
+use refusals::refusal::Verdict;
+use schedule::rounds::Round;
+use schedule::rounds::Run;
+use schedule::rounds::last_round;
+use schedule::rounds::last_run;
 ghost use mathlib.Core.Path.{_≡_};
-ghost use mathlib.Core.Bool.{true, cond};
-ghost use mathlib.Core.List.{[]};
+ghost use mathlib.Core.Bool.{true};
 ghost use Prim.Native.Nat.{_≤_, _<_};
-ghost use lib.ListN.{length, set};
-ghost use Rattle.sets.specs.Sets.{member};
+ghost use lib.ListN.{length};
 ghost use Rattle.sets.specs.Holders.{holderTable};
-ghost use Rattle.plan.specs.Schedule.{listed, rounds};
-ghost use Rattle.plan.specs.Values.{default};
-ghost use Rattle.plan.specs.Outcome.{taken};
+ghost use Rattle.plan.specs.Listed.{listed};
+ghost use Rattle.schedule.specs.Schedule.{rounds};
+ghost use Rattle.refusals.specs.Outcome.{taken};
 ghost use Rattle.tree.specs.Places.{cellCount};
 ghost use Rattle.protocol.specs.Answers.{closingSays};
 ghost use Rattle.protocol.specs.Records.{advanced, runEnded};
-ghost use Rattle.protocol.specs.Rounds.{convert, close};
+ghost use Rattle.protocol.specs.Rounds.{boardWith, convert, close};
 ghost use Rattle.protocol.specs.Calls.{goodRecord, closing, closedValues};
-ghost use Rattle.frames.specs.Nodes.{Standing};
-ghost use Rattle.closing.specs.Gathered.{Gathers};
-
-// Round 1: the default at the root, unless the dealer's frame was taken.
-fn gather_word(plan: Plan, taken: u8, cells: &mut [u8])
-    requires { ⌜ (plan .dealer < plan .n) × (cellCount (plan .n) ≤ length (now cells)) ⌝ }
-    ensures { λ _. ⌜ now (cells .exit) ≡ cond (member (plan .dealer) taken) (now (cells .entry)) (set (now (cells .entry)) 0 (default plan)) ⌝ }
-{
-    let dealer = plan.dealer;
-    if has(taken, dealer) {
-        return;
-    }
-    cells[0] = plan.default();
-}
-
-// Later rounds: what was not handed in, the board's own cells, and rule G; the list.
-fn gather_later(
-    plan: Plan,
-    holders: &[u8],
-    board: u8,
-    round: Round,
-    taken: u8,
-    list: u8,
-    cells: &mut [u8],
-) -> u8
-    requires { ⌜ Standing plan (now holders) board round × (2 ≤ round .0) × (cellCount (plan .n) ≤ length (now cells)) ⌝ }
-    ensures { λ d. ⌜ Gathers plan board round taken list d (now (cells .entry)) (now (cells .exit)) ⌝ }
-{
-    fill_missing(plan, holders, board, round, taken, cells);
-    copy_own(plan, holders, board, round, cells);
-    detect_cells(plan, holders, board, round, list, cells)
-}
-
-// What a round gathers; the list.
-fn gather_round(
-    plan: Plan,
-    holders: &[u8],
-    board: u8,
-    round: Round,
-    taken: u8,
-    list: u8,
-    cells: &mut [u8],
-) -> u8
-    requires { ⌜ Standing plan (now holders) board round × (cellCount (plan .n) ≤ length (now cells)) ⌝ }
-    ensures { λ d. ⌜ Gathers plan board round taken list d (now (cells .entry)) (now (cells .exit)) ⌝ }
-{
-    let k = round.0;
-    if k == 1 {
-        gather_word(plan, taken, cells);
-        return list;
-    }
-    gather_later(plan, holders, board, round, taken, list, cells)
-}
 
 // The next round of the same run.
 fn next_round(r: Record, list: u8) -> Record
@@ -103,7 +47,7 @@ fn next_run(r: Record, list: u8, root: u8) -> Record
     requires { ⌜ goodRecord r ≡ true ⌝ }
     ensures { λ x. ⌜ x ≡ runEnded r list root ⌝ }
 {
-    let last = r.plan.last_run();
+    let last = last_run(r.plan);
     let most = last.0;
     let t = r.run.0;
     let mut next = r;
@@ -124,11 +68,11 @@ fn next_run(r: Record, list: u8, root: u8) -> Record
 }
 
 // Closing the last round of a run: the root, rule C, the cells, and the record.
-fn convert_round(r: Record, holders: &[u8], list: u8, cells: &mut [u8]) -> Record
+fn convert_round(r: Record, holders: &[u8], list: u8, cells: &mut [Value]) -> Record
     requires { ⌜ (goodRecord r ≡ true) × (now holders ≡ holderTable (listed (r .plan))) × (cellCount (r .plan .n) ≤ length (now cells)) ⌝ }
-    ensures { λ x. ⌜ (x ≡ convert r (record { detected = list; cells = now (cells .entry) }) .rec) × (now (cells .exit) ≡ convert r (record { detected = list; cells = now (cells .entry) }) .cells) ⌝ }
+    ensures { λ x. ⌜ (x ≡ convert (boardWith r (now (cells .entry))) (record { detected = list; cells = now (cells .entry) }) .rec) × (now (cells .exit) ≡ convert (boardWith r (now (cells .entry))) (record { detected = list; cells = now (cells .entry) }) .cells) ⌝ }
 {
-    let converted = convert_cells(r.plan, holders, r.board, list, cells);
+    let converted = convert_cells(r.plan, holders, r.board, r.run, r.round, list, cells);
     let root = converted.root;
     let found = converted.list;
     keep_root(r.plan, root, cells);
@@ -136,21 +80,22 @@ fn convert_round(r: Record, holders: &[u8], list: u8, cells: &mut [u8]) -> Recor
 }
 
 // A round is closed: the record.
-fn close_round(r: Record, cells: &mut [u8]) -> Record
+fn close_round(r: Record, cells: &mut [Value]) -> Record
     requires { ⌜ (goodRecord r ≡ true) × (cellCount (r .plan .n) ≤ length (now cells)) ⌝ }
-    ensures { λ x. ⌜ (x ≡ close (record { rec = r; cells = now (cells .entry) }) .rec) × (now (cells .exit) ≡ close (record { rec = r; cells = now (cells .entry) }) .cells) ⌝ }
+    ensures { λ x. ⌜ (x ≡ close (boardWith r (now (cells .entry))) .rec) × (now (cells .exit) ≡ close (boardWith r (now (cells .entry))) .cells) ⌝ }
 {
     let holders = r.plan.holders();
     let list = gather_round(
         r.plan,
         &holders,
         r.board,
+        r.run,
         r.round,
         r.taken,
         r.detected,
         cells,
     );
-    let end = r.plan.last_round();
+    let end = last_round(r.plan);
     let top = end.0;
     let k = r.round.0;
     if k < top {
@@ -173,8 +118,8 @@ fn answer_of(r: Record) -> Closing
 }
 
 // Closing a round.
-pub fn close(r: Record, cells: &mut [u8]) -> Closed
-    ensures { λ x. ⌜ (closingSays (x .answer) ≡ closing (record { rec = r; cells = now (cells .entry) }) .answer) × (x .rec ≡ closing (record { rec = r; cells = now (cells .entry) }) .board .rec) × (now (cells .exit) ≡ closing (record { rec = r; cells = now (cells .entry) }) .board .cells) ⌝ }
+pub fn close(r: Record, cells: &mut [Value]) -> Closed
+    ensures { λ x. ⌜ (closingSays (x .answer) ≡ closing (boardWith r (now (cells .entry))) .answer) × (x .rec ≡ closing (boardWith r (now (cells .entry))) .board .rec) × (now (cells .exit) ≡ closing (boardWith r (now (cells .entry))) .board .cells) ⌝ }
 {
     match judge_open(r, cells) {
         Verdict::Refused(why) => Closed {

@@ -1,3 +1,2 @@
-// Closing a round, and reading the decision.
+// Closing a round.
 pub mod closing;
-pub mod deciding;

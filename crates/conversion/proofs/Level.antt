@@ -1,6 +1,6 @@
 -- Rule C from child to child of a node, from node to node of a level, and from level to level, as the code goes.
 -- Assumes nothing.
-use Prim.Native.Nat.{ℕ, zero, suc, _+_, _-_, _*_, _/_, _%_, _^_, _≤_, _<_}
+use Prim.Native.Nat.{ℕ, zero, suc, _+_, _-_, _*_, _/_, _%_, _≤_, _<_}
 use mathlib.Core.Path.{_≡_, sym, ap, ap₂, _∙_, subst}
 use mathlib.Core.Bool.{Bool, true, false, _||_, cond}
 use mathlib.Core.List.{List, [], _∷_, map, List·Memᴰ}
@@ -8,21 +8,21 @@ use mathlib.Core.Option.{some}
 use native.Mathlib.Nat.{mul-le-mul}
 use native.Mathlib.Numerals.{add-one, sub-one}
 use native.Mathlib.Omega.{arith}
-use lib.Bits.{bitOr}
 use lib.ListN.{length, getD, take, drop, set, replicate, length-map, List·getD-map, drop-of-length-le}
 use lib.Seq.{drop-cons, take-at}
 use mir.Syntax.{w8, w64}
 use mir.Val.{Fits}
-use Rattle.sets.specs.Sets.{member, insert}
+use Rattle.sets.specs.Sets.{member}
 use Rattle.sets.proofs.Tests.{or-left}
 use Rattle.plan.specs.declared.plan.Plan.{Plan}
-use Rattle.plan.specs.Schedule.{rounds}
+use Rattle.schedule.specs.declared.rounds.Run.{Run}
+use Rattle.schedule.specs.declared.rounds.Round.{Round}
+use Rattle.schedule.specs.Schedule.{rounds}
 use Rattle.tree.specs.Labels.{Label, mask, last, labels}
 use Rattle.tree.specs.Places.{levelStart, rank, place, childIndex, outsideBelow, startWithin}
 use Rattle.tree.specs.Cells.{blank, cellAt}
 use Rattle.tree.proofs.Boards.{outside-zero, outside-more, outside-skip}
 use Rattle.tree.proofs.ChildIndex.{child-index}
-use Rattle.tree.proofs.Descent.{insert-byte}
 use Rattle.tree.proofs.Entries.{getD-mem}
 use Rattle.tree.proofs.Labels.{label-length}
 use Rattle.tree.proofs.Masks.{mask-member}
@@ -31,7 +31,8 @@ use Rattle.tree.proofs.Places.{place-lt}
 use Rattle.tree.proofs.Ranks.{rank-lt}
 use Rattle.tree.proofs.Within.{start-within, start-most}
 use Rattle.protocol.specs.Nodes.{inner}
-use Rattle.protocol.specs.Detection.{join}
+use Rattle.protocol.specs.declared.records.Rule.the-variants as Rule
+use Rattle.protocol.specs.Listing.{join}
 use Rattle.protocol.proofs.Nodes.{inner-inv, node-label}
 use Rattle.voting.specs.Worth.{worth, table}
 use Rattle.voting.specs.Tables.{explainedBy}
@@ -41,9 +42,10 @@ use Rattle.walk.specs.Walk.{code}
 use Rattle.walk.proofs.Carried.{inner-coded, inner-few, size-most}
 use Rattle.walk.proofs.Codes.{Coded}
 use Rattle.walk.proofs.Reading.{lists-length}
-use Rattle.conversion.specs.Contracts.{Convertible, Beside, Listed}
+use Rattle.resolving.specs.Contracts.{Convertible}
+use Rattle.conversion.specs.Contracts.{Beside, Listed}
 use Rattle.conversion.specs.Reading.{standing, standingFrom, passesBy, passesAt, detectBy, levelsBy}
-use Rattle.conversion.proofs.Steps.{getD-any}
+use Rattle.resolving.proofs.Steps.{getD-any}
 
 -- The children by boards below c are read.
 pub record Reads (n s from c at : ℕ) (values cells : List ℕ) : Type 0 where
@@ -178,30 +180,34 @@ module _ {p : Plan} {holders : List ℕ} {i : ℕ} {cells : List ℕ} (k : Conve
     here : drop j (inner p i level) ≡ getD (inner p i level) j [] ∷ drop (j + 1) (inner p i level)
     here = drop-cons αs j [] (omega (arith, list-length)) ∙ ap (λ y. α ∷ drop y αs) (sym (add-one j))
 
-    abbrev rest : ℕ → ℕ → ℕ
-    rest m d = detectBy p cells (drop m αs) d
+    module _ (run : Run) (round : Round) where
+      abbrev rest : ℕ → ℕ → ℕ
+      rest m d = detectBy p run round cells (drop m αs) d
 
-    step : (b : Bool) (detected : ℕ) → passesBy p cells (getD (inner p i level) j []) detected ≡ b
-        → rest j detected ≡ rest (j + 1) (cond b detected (join (last (getD (inner p i level) j [])) detected))
-    unfolding detectBy
-    step b detected e =
-        ap (λ l. detectBy p cells l detected) here ∙ ap (λ x. rest (j + 1) (cond x detected (join (last α) detected))) e
+      step : (b : Bool) (detected : ℕ) → passesBy p cells (getD (inner p i level) j []) detected ≡ b
+          → rest j detected ≡ rest (j + 1) (cond b detected (join (last α) run round Rule.C (length α) detected))
+      unfolding detectBy
+      step b detected e =
+          ap (λ l. detectBy p run round cells l detected) here
+          ∙ ap (λ x. rest (j + 1) (cond x detected (join (last α) run round Rule.C (length α) detected))) e
 
-    pub node-kept : (detected after : ℕ) → passesBy p cells (getD (inner p i level) j []) detected ≡ true → after ≡ detected
-        → detectBy p cells (drop (j + 1) (inner p i level)) after ≡ detectBy p cells (drop j (inner p i level)) detected
-    node-kept detected after e d = ap (rest (j + 1)) d ∙ sym (step true detected e)
+      pub node-kept : (detected after : ℕ) → passesBy p cells (getD (inner p i level) j []) detected ≡ true → after ≡ detected
+          → detectBy p run round cells (drop (j + 1) (inner p i level)) after ≡ detectBy p run round cells (drop j (inner p i level)) detected
+      node-kept detected after e d = ap (rest (j + 1)) d ∙ sym (step true detected e)
 
-    pub node-joined : (detected after q : ℕ) → passesBy p cells (getD (inner p i level) j []) detected ≡ false → q ≡ getD nodes j 0 / 128 % 8
-        → after ≡ bitOr detected (1 * 2 ^ q % 256)
-        → detectBy p cells (drop (j + 1) (inner p i level)) after ≡ detectBy p cells (drop j (inner p i level)) detected
-    unfolding join
-    node-joined detected after q e f d =
-        ap (rest (j + 1)) (d ∙ insert-byte detected q (omega (arith, visited .end, visited .end-below)) ∙ ap (λ y. insert y detected) (f ∙ visited .end))
-        ∙ sym (step false detected e)
+      pub node-joined : (detected after q : ℕ) → passesBy p cells (getD (inner p i level) j []) detected ≡ false → q ≡ getD nodes j 0 / 128 % 8
+          → after ≡ join q run round Rule.C level detected
+          → detectBy p run round cells (drop (j + 1) (inner p i level)) after ≡ detectBy p run round cells (drop j (inner p i level)) detected
+      node-joined detected after q e f d =
+          let depth : level ≡ length α = sym (label-length (p .n) (p .dealer) level α mem) in
+          ap (rest (j + 1)) (d ∙ ap₂ (λ r n. join r run round Rule.C n detected) (f ∙ visited .end) depth)
+          ∙ sym (step false detected e)
 
-  pub nodes-done : (j detected : ℕ) → length nodes ≤ j → detectBy p cells (drop j (inner p i level)) detected ≡ detected
+  pub nodes-done : (run : Run) (round : Round) (j detected : ℕ) → length nodes ≤ j
+      → detectBy p run round cells (drop j (inner p i level)) detected ≡ detected
   unfolding detectBy
-  nodes-done j detected h = ap (λ l. detectBy p cells l detected) (drop-of-length-le αs {i = j} (omega (arith, list-length)))
+  nodes-done run round j detected h =
+      ap (λ l. detectBy p run round cells l detected) (drop-of-length-le αs {i = j} (omega (arith, list-length)))
 
 -- The list of the level's nodes, as the walk writes it.
 module _ {p : Plan} {holders : List ℕ} {i : ℕ} {cells : List ℕ} (k : Convertible p holders i cells) {level : ℕ} (low : 1 ≤ level) (high : level < rounds p .0) where
@@ -234,13 +240,13 @@ module _ {p : Plan} {holders : List ℕ} {i : ℕ} {cells : List ℕ} (k : Conve
         }
 
 -- From level to level.
-module _ (p : Plan) (i : ℕ) (cells : List ℕ) where
-  pub levels-step : (level list found : ℕ) → 0 < level → found ≡ detectBy p cells (inner p i level) list
-      → levelsBy p i cells (level - 1) found ≡ levelsBy p i cells level list
+module _ (p : Plan) (i : ℕ) (run : Run) (round : Round) (cells : List ℕ) where
+  pub levels-step : (level list found : ℕ) → 0 < level → found ≡ detectBy p run round cells (inner p i level) list
+      → levelsBy p i run round cells (level - 1) found ≡ levelsBy p i run round cells level list
   unfolding levelsBy
   levels-step zero list found l e = absurd (omega arith)
-  levels-step (suc k) list found l e = ap₂ (λ z d. levelsBy p i cells z d) (sub-one (suc k)) e
+  levels-step (suc k) list found l e = ap₂ (λ z d. levelsBy p i run round cells z d) (sub-one (suc k)) e
 
-  pub levels-done : (level list : ℕ) → level ≡ 0 → levelsBy p i cells level list ≡ list
+  pub levels-done : (level list : ℕ) → level ≡ 0 → levelsBy p i run round cells level list ≡ list
   unfolding levelsBy
-  levels-done level list e = ap (λ k. levelsBy p i cells k list) e
+  levels-done level list e = ap (λ k. levelsBy p i run round cells k list) e

@@ -1,7 +1,2 @@
-mod Under
-mod Settled
-pub mod Cells
-mod Resolved
-mod Steps
 mod RuleC
 mod Level

@@ -2,7 +2,7 @@
 -- Assumes nothing.
 use Prim.Native.Nat.{ℕ, zero, suc, _+_, _-_, _≤_, _<_}
 use mathlib.Core.Path.{_≡_, refl, sym, _∙_, ap, subst}
-use mathlib.Core.Bool.{true, false, _||_, cond}
+use mathlib.Core.Bool.{false, _||_, cond}
 use mathlib.Core.List.{List, [], _∷_, List·Memᴰ, List·Memᴰ·head, List·Memᴰ·tail}
 use mathlib.Core.Option.{Option}
 use native.Mathlib.Omega.{arith}
@@ -14,25 +14,31 @@ use Rattle.sets.specs.Structure.{tolerated}
 use Rattle.sets.proofs.Tests.{cases, and-l, and-r}
 use Rattle.plan.specs.declared.plan.Plan.{Plan}
 use Rattle.plan.specs.Calls.{judged}
-use Rattle.plan.specs.Schedule.{listed, rounds}
+use Rattle.plan.specs.Listed.{listed}
+use Rattle.schedule.specs.declared.rounds.Run.{Run}
+use Rattle.schedule.specs.declared.rounds.Round.{Round}
+use Rattle.schedule.specs.Schedule.{rounds}
 use Rattle.tree.specs.Labels.{Label, occurs, mask, last}
 use Rattle.tree.specs.Places.{cellCount}
 use Rattle.tree.specs.Cells.{cellAt}
 use Rattle.tree.proofs.Labels.{label-below}
 use Rattle.tree.proofs.Masks.{mask-member}
 use Rattle.protocol.specs.Nodes.{internal, nodes, inner}
-use Rattle.protocol.specs.Detection.{byResolving, passes, join, detect2, detectAll2, detectLevels}
+use Rattle.protocol.specs.declared.records.Rule.the-variants as Rule
+use Rattle.protocol.specs.Listing.{join}
+use Rattle.protocol.specs.Detection.{byResolving, passes, detect2, detectAll2, detectLevels}
 use Rattle.protocol.proofs.Nodes.{no-node, node-root, inner-inv, node-inv, node-label, node-length}
 use Rattle.voting.specs.Worth.{worth, table}
 use Rattle.voting.specs.Tables.{explainedBy}
 use Rattle.voting.proofs.Laws.{explained-table}
-use Rattle.conversion.specs.Settled.{settledAll}
-use Rattle.conversion.specs.Contracts.{Convertible, Roots, Converts}
+use Rattle.resolving.specs.Settled.{settledAll}
+use Rattle.resolving.specs.Contracts.{Convertible, Roots}
+use Rattle.conversion.specs.Contracts.{Converts}
 use Rattle.conversion.specs.Reading.{standing, passesBy, detectBy, levelsBy}
-use Rattle.conversion.proofs.Cells.{root-labelled, all-length}
-use Rattle.conversion.proofs.Under.{Under, here, down, under-trans}
-use Rattle.conversion.proofs.Settled.{settled-done}
-use Rattle.conversion.proofs.Steps.{same-room}
+use Rattle.resolving.proofs.Cells.{root-labelled, all-length}
+use Rattle.resolving.proofs.Under.{Under, here, down, under-trans}
+use Rattle.resolving.proofs.Settled.{settled-done}
+use Rattle.resolving.proofs.Steps.{same-room}
 
 -- A node of level j, with k levels below it, is below the root.
 node-under : (p : Plan) (i j k : ℕ) (α : Label) → List·Memᴰ α (nodes p i j) → j + k ≡ rounds p .0 → Under p i (rounds p .0 - 1) (p .dealer ∷ []) k α
@@ -82,31 +88,31 @@ module _ (p : Plan) (i : ℕ) (cells : List ℕ) where
             (sym (explained-table p α (byResolving p i cells α) list good m (and-l (tolerated (listed p) (mask α)) (ltb (length α) (rounds p .0)) t)
             (label-below (p .n) (p .dealer) k α ld (node-label p i k α v))))
 
-        detect-same : (k : ℕ) (αs : List Label) (list : ℕ) → ((α : Label) → List·Memᴰ α αs → List·Memᴰ α (inner p i k))
-            → detectBy p (settledAll p i cells) αs list ≡ detectAll2 p i cells αs list
+        detect-same : (run : Run) (round : Round) (k : ℕ) (αs : List Label) (list : ℕ) → ((α : Label) → List·Memᴰ α αs → List·Memᴰ α (inner p i k))
+            → detectBy p run round (settledAll p i cells) αs list ≡ detectAll2 p i run round cells αs list
         unfolding detectBy detectAll2 detect2
-        detect-same k [] list h = refl
-        detect-same k (α ∷ αs) list h =
-            ap (λ b. detectBy p (settledAll p i cells) αs (cond b list (join (last α) list))) (passes-same k α list (h α (List·Memᴰ·head refl)))
-            ∙ detect-same k αs _ (λ β w. h β (List·Memᴰ·tail w))
+        detect-same run round k [] list h = refl
+        detect-same run round k (α ∷ αs) list h =
+            ap (λ b. detectBy p run round (settledAll p i cells) αs (cond b list (join (last α) run round Rule.C (length α) list))) (passes-same k α list (h α (List·Memᴰ·head refl)))
+            ∙ detect-same run round k αs _ (λ β w. h β (List·Memᴰ·tail w))
 
-        pub levels-same : (k list : ℕ) → levelsBy p i (settledAll p i cells) k list ≡ detectLevels p i cells k list
+        pub levels-same : (run : Run) (round : Round) (k list : ℕ) → levelsBy p i run round (settledAll p i cells) k list ≡ detectLevels p i run round cells k list
         unfolding levelsBy detectLevels
-        levels-same zero list = refl
-        levels-same (suc k) list =
-            levels-same k _ ∙ ap (detectLevels p i cells k) (detect-same (suc k) (inner p i (suc k)) list (λ α w. w))
+        levels-same run round zero list = refl
+        levels-same run round (suc k) list =
+            levels-same run round k _ ∙ ap (detectLevels p i run round cells k) (detect-same run round (suc k) (inner p i (suc k)) list (λ α w. w))
 
 -- Converting: rule C runs on what resolving leaves.
 module _ {p : Plan} {holders : List ℕ} {i v : ℕ} {before after : List ℕ} (k : Convertible p holders i before) (f : Roots p i v before after) where
   pub resolved-room : Convertible p holders i after
   resolved-room = same-room k (ap length (f .cells-are) ∙ all-length p i before)
 
-  pub converts : {list found : ℕ} → found ≡ levelsBy p i after (rounds p .0 - 1) list → Converts p i list v found before after
-  converts {list} e = record {
+  pub converts : {run : Run} {round : Round} {list found : ℕ} → found ≡ levelsBy p i run round after (rounds p .0 - 1) list → Converts p i run round list v found before after
+  converts {run} {round} {list} e = record {
     root-is = f .root-is;
     list-is =
         e
-        ∙ ap (λ x. levelsBy p i x (rounds p .0 - 1) list) (f .cells-are)
-        ∙ levels-same p i before (k .dealer-below) (k .room) (k .accepted) (k .most-values) (rounds p .0 - 1) list;
+        ∙ ap (λ x. levelsBy p i run round x (rounds p .0 - 1) list) (f .cells-are)
+        ∙ levels-same p i before (k .dealer-below) (k .room) (k .accepted) (k .most-values) run round (rounds p .0 - 1) list;
     cells-are = f .cells-are;
   }

@@ -3,14 +3,17 @@ use Prim.Native.Nat.{ℕ, zero, suc, _+_, _/_, _%_}
 use mathlib.Core.Bool.{Bool, _||_, cond}
 use mathlib.Core.List.{List, [], _∷_}
 use mathlib.Core.Option.{Option, some}
-use lib.ListN.{getD}
+use lib.ListN.{length, getD}
 use Rattle.sets.specs.Sets.{member}
 use Rattle.plan.specs.declared.plan.Plan.{Plan}
+use Rattle.schedule.specs.declared.rounds.Run.{Run}
+use Rattle.schedule.specs.declared.rounds.Round.{Round}
 use Rattle.tree.specs.Labels.{Label, mask, last}
 use Rattle.tree.specs.Places.{outsideBelow}
 use Rattle.tree.specs.Cells.{cellAt}
+use Rattle.protocol.specs.declared.records.Rule.the-variants as Rule
+use Rattle.protocol.specs.Listing.{join, asSet}
 use Rattle.protocol.specs.Nodes.{inner}
-use Rattle.protocol.specs.Detection.{join}
 use Rattle.voting.specs.Worth.{table}
 use Rattle.voting.specs.Tables.{explainedBy}
 
@@ -21,7 +24,7 @@ standing n cells α c = some (cellAt n cells (c ∷ α))
 -- Does the rule leave the list as it is at node α?
 unfoldable pub passesBy : Plan → List ℕ → Label → ℕ → Bool
 passesBy p cells α list =
-    member (last α) list || explainedBy p (mask α) (table (standing (p .n) cells α) (mask α) (p .n)) list
+    member (last α) (asSet list) || explainedBy p (mask α) (table (standing (p .n) cells α) (mask α) (p .n)) (asSet list)
 
 -- The same on numbers, as the code goes: x is the node as one number, and its children's cells stand side by side from `from`.
 abbrev pub standingFrom : List ℕ → ℕ → ℕ → ℕ → Option ℕ
@@ -29,14 +32,15 @@ standingFrom cells from s c = some (getD cells (from + outsideBelow s c) 0)
 
 unfoldable pub passesAt : Plan → List ℕ → ℕ → ℕ → ℕ → Bool
 passesAt p cells from x list =
-    member (x / 128 % 8) list || explainedBy p (x % 128) (table (standingFrom cells from (x % 128)) (x % 128) (p .n)) list
+    member (x / 128 % 8) (asSet list) || explainedBy p (x % 128) (table (standingFrom cells from (x % 128)) (x % 128) (p .n)) (asSet list)
 
 -- The list after the nodes given.
-unfoldable pub detectBy : Plan → List ℕ → List Label → ℕ → ℕ
-detectBy p cells [] list = list
-detectBy p cells (α ∷ αs) list = detectBy p cells αs (cond (passesBy p cells α list) list (join (last α) list))
+unfoldable pub detectBy : Plan → Run → Round → List ℕ → List Label → ℕ → ℕ
+detectBy p t k cells [] list = list
+detectBy p t k cells (α ∷ αs) list =
+    detectBy p t k cells αs (cond (passesBy p cells α list) list (join (last α) t k Rule.C (length α) list))
 
--- Levels k down to 1.
-unfoldable pub levelsBy : Plan → ℕ → List ℕ → ℕ → ℕ → ℕ
-levelsBy p i cells zero list = list
-levelsBy p i cells (suc k) list = levelsBy p i cells k (detectBy p cells (inner p i (suc k)) list)
+-- The level given and those below it.
+unfoldable pub levelsBy : Plan → ℕ → Run → Round → List ℕ → ℕ → ℕ → ℕ
+levelsBy p i t k cells zero list = list
+levelsBy p i t k cells (suc level) list = levelsBy p i t k cells level (detectBy p t k cells (inner p i (suc level)) list)

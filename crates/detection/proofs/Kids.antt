@@ -10,23 +10,22 @@ use lib.ListN.{length, getD, set}
 use Rattle.sets.specs.Sets.{member}
 use Rattle.sets.specs.Structure.{tolerated}
 use Rattle.plan.specs.declared.plan.Plan.{Plan}
-use Rattle.plan.specs.declared.schedule.Round.{Round}
-use Rattle.plan.specs.Schedule.{listed}
+use Rattle.plan.specs.Listed.{listed}
 use Rattle.plan.specs.Values.{value}
-use Rattle.tree.specs.Labels.{Label, occurs, mask, last, labels}
+use Rattle.schedule.specs.declared.rounds.Round.{Round}
+use Rattle.tree.specs.Labels.{Label, occurs, mask, labels}
 use Rattle.tree.specs.Places.{outsideBelow, childIndex, startWithin, place, cellCount}
 use Rattle.tree.proofs.Labels.{label-below, label-length}
 use Rattle.tree.proofs.Masks.{mask-member}
 use Rattle.tree.proofs.NodePlaces.{at-mem}
 use Rattle.tree.proofs.Within.{start-most}
-use Rattle.protocol.specs.Nodes.{read}
 use Rattle.protocol.specs.Detection.{explained, byCell}
 use Rattle.protocol.proofs.Bounds.{last-below}
 use Rattle.voting.specs.Worth.{worth, table}
 use Rattle.voting.specs.Tables.{explainedBy}
 use Rattle.voting.proofs.Table.{table-more, table-same}
 use Rattle.voting.proofs.Laws.{explained-table}
-use Rattle.frames.specs.Nodes.{Standing, Nodes, nodeAt, IsNode}
+use Rattle.frames.specs.Nodes.{Standing, Nodes, nodeAt}
 use Rattle.frames.proofs.Places.{child-sum, child-lt, read-place}
 use Rattle.frames.proofs.Standing.{tabled}
 use Rattle.detection.specs.Visits.{kid, Kids, Visit}

@@ -13,10 +13,13 @@ use Rattle.sets.proofs.Tests.{cases}
 use Rattle.plan.specs.declared.plan.Plan.{Plan}
 use Rattle.tree.specs.Labels.{Label, occurs, last, childrenFrom, children, childrenOf}
 use Rattle.tree.specs.Cells.{store}
-use Rattle.plan.specs.declared.schedule.Round.{Round}
 use Rattle.plan.specs.Values.{default}
+use Rattle.schedule.specs.declared.rounds.Run.{Run}
+use Rattle.schedule.specs.declared.rounds.Round.{Round}
 use Rattle.protocol.specs.Nodes.{filter, nodes, inner, carried, sent}
-use Rattle.protocol.specs.Detection.{byCell, join, passes, Scan, maskBoard, detect1}
+use Rattle.protocol.specs.declared.records.Rule.the-variants as Rule
+use Rattle.protocol.specs.Listing.{join}
+use Rattle.protocol.specs.Detection.{byCell, passes, Scan, maskBoard, detect1}
 use Rattle.protocol.specs.Rounds.{fill}
 use Rattle.frames.specs.Nodes.{Standing}
 use Rattle.frames.proofs.Listed.{sent-carried}
@@ -96,12 +99,12 @@ mask-sent {p = p} {i = i} {k = k} s later q α cells l e =
     ∙ ap (λ αs. fill p q αs [] cells) (sym (sent-carried s later q))
 
 -- Rule G at a node.
-module _ (p : Plan) (i : ℕ) (α : Label) (s : Scan) where
-  pub detect-kept : passes p α (byCell p (s .cells) α) (s .detected) ≡ true → detect1 p i α s ≡ s
+module _ (p : Plan) (i : ℕ) (run : Run) (round : Round) (α : Label) (s : Scan) where
+  pub detect-kept : passes p α (byCell p (s .cells) α) (s .detected) ≡ true → detect1 p i run round α s ≡ s
   unfolding detect1
   detect-kept e = rw e refl
 
   pub detect-joined : passes p α (byCell p (s .cells) α) (s .detected) ≡ false
-      → detect1 p i α s ≡ record { detected = join (last α) (s .detected); cells = maskBoard p (last α) (nodes p i (suc (length α))) (s .cells) }
+      → detect1 p i run round α s ≡ record { detected = join (last α) run round Rule.G (length α) (s .detected); cells = maskBoard p (last α) (nodes p i (suc (length α))) (s .cells) }
   unfolding detect1
   detect-joined e = rw e refl

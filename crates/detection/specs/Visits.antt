@@ -1,5 +1,5 @@
 -- What rule G asks at a node, and what its children are worth by their cells. A middle layer.
-use Prim.Native.Nat.{ℕ, _+_, _-_, _*_, _/_, _%_, _≤_, _<_}
+use Prim.Native.Nat.{ℕ, _+_, _-_, _≤_, _<_}
 use mathlib.Core.Path.{_≡_}
 use mathlib.Core.Bool.{true, false}
 use mathlib.Core.List.{List}
@@ -8,7 +8,7 @@ use lib.ListN.{length, getD}
 use Rattle.sets.specs.Sets.{member}
 use Rattle.sets.specs.Structure.{tolerated}
 use Rattle.plan.specs.declared.plan.Plan.{Plan}
-use Rattle.plan.specs.Schedule.{listed}
+use Rattle.plan.specs.Listed.{listed}
 use Rattle.plan.specs.Values.{value}
 use Rattle.plan.specs.Calls.{judged}
 use Rattle.plan.specs.Tabled.{Tabled}

@@ -1,7 +1,13 @@
 // Rule G: what the children's cells say of a node's last board.
-use frames::gathering::silence;
+use codec::value::Value;
+use filling::filling::silence;
+use listing::listing::as_set;
+use listing::listing::join;
 use plan::plan::Plan;
-use plan::schedule::Round;
+use protocol::limits::NODES;
+use protocol::records::Rule;
+use schedule::rounds::Round;
+use schedule::rounds::Run;
 use sets::boards::has;
 use tree::levels::level_start;
 use voting::explaining::explained_by;
@@ -15,7 +21,7 @@ ghost use mathlib.Core.List.{[]};
 ghost use Prim.Native.Nat.{ℕ, _+_, _-_, _*_, _/_, _≤_, _<_};
 ghost use lib.ListN.{length, getD};
 ghost use Rattle.sets.specs.Structure.{tolerated};
-ghost use Rattle.plan.specs.Schedule.{listed};
+ghost use Rattle.plan.specs.Listed.{listed};
 ghost use Rattle.tree.specs.Labels.{mask};
 ghost use Rattle.tree.specs.Places.{cellCount, startWithin};
 ghost use Rattle.protocol.specs.Nodes.{inner};
@@ -25,7 +31,7 @@ ghost use Rattle.frames.specs.Nodes.{Standing, Nodes, nodeAt, labelsOf};
 ghost use Rattle.detection.specs.Visits.{kid, Kids, Visit};
 
 // What the children of a node with these boards are worth by their cells, the first of which stands at `from`.
-fn child_values(plan: Plan, boards: u8, from: usize, cells: &[u8]) -> [u8; 8]
+fn child_values(plan: Plan, boards: u8, from: usize, cells: &[Value]) -> [Value; 8]
     requires { ⌜ (plan .n ≤ 7) × Kids plan boards from (now cells) ⌝ }
     ensures { λ t. ⌜ t ≡ table (kid plan boards from (now (cells .entry))) boards (plan .n) ⌝ }
 {
@@ -60,17 +66,18 @@ fn passes_at(
     node: u32,
     start: usize,
     list: u8,
-    cells: &[u8],
+    cells: &[Value],
 ) -> bool
     requires { ⌜ Visit plan (now holders) level node start (now cells) ⌝ }
     ensures { λ b. ⌜ b ≡ passes plan (nodeAt plan level node) (byCell plan (now (cells .entry)) (nodeAt plan level node)) list ⌝ }
 {
-    if has(list, last_of(node)) {
+    let set = as_set(list);
+    if has(set, last_of(node)) {
         return true;
     }
     let boards = boards_of(node);
     let values = child_values(plan, boards, first_child(plan.n, level, node, start), cells);
-    explained_by(plan, holders, boards, values, list)
+    explained_by(plan, holders, boards, values, set)
 }
 
 // Rule G at a node; the list.
@@ -78,21 +85,22 @@ fn detect_at(
     plan: Plan,
     holders: &[u8],
     board: u8,
+    run: Run,
     round: Round,
     node: u32,
     start: usize,
     list: u8,
-    cells: &mut [u8],
+    cells: &mut [Value],
 ) -> u8
     requires { ⌜ Standing plan (now holders) board round × (2 ≤ round .0) × Visit plan (now holders) (round .0 - 1) node start (now cells) ⌝ }
-    ensures { λ d. ⌜ (d ≡ detect1 plan board (nodeAt plan (round .0 - 1) node) (record { detected = list; cells = now (cells .entry) }) .detected) × (now (cells .exit) ≡ detect1 plan board (nodeAt plan (round .0 - 1) node) (record { detected = list; cells = now (cells .entry) }) .cells) ⌝ }
+    ensures { λ d. ⌜ (d ≡ detect1 plan board run round (nodeAt plan (round .0 - 1) node) (record { detected = list; cells = now (cells .entry) }) .detected) × (now (cells .exit) ≡ detect1 plan board run round (nodeAt plan (round .0 - 1) node) (record { detected = list; cells = now (cells .entry) }) .cells) ⌝ }
 {
     if passes_at(plan, holders, round.0 - 1, node, start, list, cells) {
         return list;
     }
     let end = last_of(node);
     silence(plan, holders, board, end, round, cells);
-    list | (1 << end)
+    join(end, run, round, Rule::G, round.0 - 1, list)
 }
 
 // Rule G over a list of nodes; the list of boards.
@@ -100,13 +108,14 @@ fn detect_list(
     plan: Plan,
     holders: &[u8],
     board: u8,
+    run: Run,
     round: Round,
     nodes: &[u32],
     list: u8,
-    cells: &mut [u8],
+    cells: &mut [Value],
 ) -> u8
     requires { ⌜ Standing plan (now holders) board round × (2 ≤ round .0) × (cellCount (plan .n) ≤ length (now cells)) × Nodes plan (round .0 - 1) (now nodes) × ((j : ℕ) → j < length (now nodes) → tolerated (listed plan) (mask (nodeAt plan (round .0 - 1) (getD (now nodes) j 0))) ≡ true) ⌝ }
-    ensures { λ d. ⌜ (d ≡ detectAll1 plan board (labelsOf plan (round .0 - 1) (now (nodes .entry))) (record { detected = list; cells = now (cells .entry) }) .detected) × (now (cells .exit) ≡ detectAll1 plan board (labelsOf plan (round .0 - 1) (now (nodes .entry))) (record { detected = list; cells = now (cells .entry) }) .cells) ⌝ }
+    ensures { λ d. ⌜ (d ≡ detectAll1 plan board run round (labelsOf plan (round .0 - 1) (now (nodes .entry))) (record { detected = list; cells = now (cells .entry) }) .detected) × (now (cells .exit) ≡ detectAll1 plan board run round (labelsOf plan (round .0 - 1) (now (nodes .entry))) (record { detected = list; cells = now (cells .entry) }) .cells) ⌝ }
 {
     let start = level_start(plan.n, round.0);
     let mut detected = list;
@@ -116,6 +125,7 @@ fn detect_list(
             plan,
             holders,
             board,
+            run,
             round,
             nodes[i],
             start,
@@ -132,14 +142,24 @@ pub fn detect_cells(
     plan: Plan,
     holders: &[u8],
     board: u8,
+    run: Run,
     round: Round,
     list: u8,
-    cells: &mut [u8],
+    cells: &mut [Value],
 ) -> u8
     requires { ⌜ Standing plan (now holders) board round × (2 ≤ round .0) × (cellCount (plan .n) ≤ length (now cells)) ⌝ }
-    ensures { λ d. ⌜ (d ≡ detectAll1 plan board (inner plan board (round .0 - 1)) (record { detected = list; cells = now (cells .entry) }) .detected) × (now (cells .exit) ≡ detectAll1 plan board (inner plan board (round .0 - 1)) (record { detected = list; cells = now (cells .entry) }) .cells) ⌝ }
+    ensures { λ d. ⌜ (d ≡ detectAll1 plan board run round (inner plan board (round .0 - 1)) (record { detected = list; cells = now (cells .entry) }) .detected) × (now (cells .exit) ≡ detectAll1 plan board run round (inner plan board (round .0 - 1)) (record { detected = list; cells = now (cells .entry) }) .cells) ⌝ }
 {
-    let mut nodes = [0u32; 720];
+    let mut nodes = [0u32; NODES];
     let count = inner_nodes(plan, holders, board, round.0 - 1, &mut nodes);
-    detect_list(plan, holders, board, round, &nodes[0..count], list, cells)
+    detect_list(
+        plan,
+        holders,
+        board,
+        run,
+        round,
+        &nodes[0..count],
+        list,
+        cells,
+    )
 }

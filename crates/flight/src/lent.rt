@@ -1,5 +1,6 @@
 // Closing a round over a lent record.
 use closing::closing::close;
+use codec::value::Value;
 use protocol::answers::Closing;
 use protocol::records::Record;
 ghost use mathlib.Core.Path.{_≡_};
@@ -7,7 +8,7 @@ ghost use Rattle.protocol.specs.Answers.{closingSays};
 ghost use Rattle.flight.specs.Lent.{lentClosing};
 
 // Closing a round over a lent record: that same record is updated.
-pub fn close_lent(r: &mut Record, cells: &mut [u8]) -> Closing
+pub fn close_lent(r: &mut Record, cells: &mut [Value]) -> Closing
     ensures { λ x. ⌜ (closingSays x ≡ lentClosing (now (r .entry)) (now (cells .entry)) .answer) × (now (r .exit) ≡ lentClosing (now (r .entry)) (now (cells .entry)) .rec) × (now (cells .exit) ≡ lentClosing (now (r .entry)) (now (cells .entry)) .cells) ⌝ }
 {
     let out = close(*r, cells);

@@ -1,9 +1,9 @@
 -- Lists of nodes: what stands at a place of one, and that the list which the walk leaves is one.
 -- Assumes nothing.
-use Prim.Native.Nat.{ℕ, _+_, _-_, _/_, _%_, _≤_, _<_}
+use Prim.Native.Nat.{zero, suc, ℕ, _+_, _-_, _/_, _%_, _≤_, _<_}
 use mathlib.Core.Path.{_≡_, refl, sym, subst, ap, ap₂, _∙_}
 use mathlib.Core.Bool.{true, false, not}
-use mathlib.Core.List.{List, [], _∷_, _++_, map, List·Memᴰ, List·Memᴰ·head, List·Memᴰ·tail}
+use mathlib.Core.List.{List, [], _∷_, map, List·Memᴰ, List·Memᴰ·head, List·Memᴰ·tail}
 use native.Mathlib.Numerals.{add-one}
 use native.Mathlib.Omega.{arith}
 use lib.Dec.{ltb}
@@ -13,15 +13,15 @@ use borrow.Author.Tests.{ne-eqb}
 use Rattle.sets.specs.Structure.{tolerated}
 use Rattle.sets.proofs.Tests.{and-l, not-t}
 use Rattle.plan.specs.declared.plan.Plan.{Plan}
-use Rattle.plan.specs.declared.schedule.Round.{Round}
-use Rattle.plan.specs.Schedule.{listed, rounds}
+use Rattle.plan.specs.Listed.{listed}
+use Rattle.schedule.specs.declared.rounds.Round.{Round}
+use Rattle.schedule.specs.Schedule.{rounds}
 use Rattle.tree.specs.Labels.{Label, occurs, mask, last, labels, labelAt}
-use Rattle.tree.specs.Places.{levelSize, rank, place, cellCount, childIndex, startWithin}
+use Rattle.tree.specs.Places.{rank, place, cellCount, childIndex, startWithin}
 use Rattle.tree.proofs.Entries.{getD-mem}
 use Rattle.tree.proofs.NodePlaces.{at-lt}
 use Rattle.tree.proofs.Ranks.{rank-lt, rank-get}
-use Rattle.protocol.specs.Nodes.{read, filter, internal, inner, carried, sent, frame}
-use Rattle.protocol.specs.Rounds.{fill, copyOwn}
+use Rattle.protocol.specs.Nodes.{internal, inner, carried, sent}
 use Rattle.protocol.proofs.Nodes.{filter-inv, inner-inv, node-label}
 use Rattle.protocol.proofs.Few.{carried-few}
 use Rattle.walk.specs.Walk.{code}
@@ -39,6 +39,13 @@ labels-drop p level i nodes h =
     let αs = map (nodeAt p level) nodes in
     drop-cons αs i (nodeAt p level 0) (let z : i < length αs = omega (arith, length-map nodes (nodeAt p level)) in z)
     ∙ ap₂ (λ α k. α ∷ drop k αs) (List·getD-map (nodeAt p level) nodes i 0) (sym (add-one i))
+
+pub labels-at : (p : Plan) (level : ℕ) (nodes : List ℕ) (i : ℕ) → i < length nodes
+    → getD (labelsOf p level nodes) i [] ≡ nodeAt p level (getD nodes i 0)
+unfolding labelsOf
+labels-at p level (x ∷ nodes) zero l = refl
+labels-at p level (x ∷ nodes) (suc i) l = labels-at p level nodes i (omega arith)
+labels-at p level [] i l = absurd (omega arith)
 
 pub labels-length : (p : Plan) (level : ℕ) (nodes : List ℕ) → length (labelsOf p level nodes) ≡ length nodes
 unfolding labelsOf
@@ -236,19 +243,3 @@ module _ {p : Plan} {holders : List ℕ} {board : ℕ} {k : Round} (s : Standing
 
       pub front-labels : labelsOf p level (take (count - 0) after) ≡ αs
       front-labels = ap (labelsOf p level) front ∙ carried-labels-of
-
--- A board's own frame, written to an array and stored from there.
-module _ {p : Plan} {holders : List ℕ} {i : ℕ} {k : Round} (s : Standing p holders i k) (later : 2 ≤ k .0) (cells : List ℕ) where
-  abbrev own : List Label
-  own = carried p i i (k .0 - 1)
-
-  pub own-copied : (count : ℕ) (nodes written blank : List ℕ) → count ≡ length own → labelsOf p (k .0 - 1) nodes ≡ own
-      → written ≡ map (read p cells) (labelsOf p (k .0 - 1) nodes) ++ drop (length nodes) blank
-      → fill p i (labelsOf p (k .0 - 1) nodes) (take (count - 0) written) cells ≡ copyOwn p i k cells
-  unfolding copyOwn frame
-  own-copied count nodes written blank e labels x =
-      let αs = labelsOf p (k .0 - 1) nodes in
-      let f = map (read p cells) αs in
-      let size : length f ≡ count - 0 = omega (arith, length-map αs (read p cells), ap length labels) in
-      ap (λ vs. fill p i αs vs cells) (ap (take (count - 0)) x ∙ take-at f (drop (length nodes) blank) (count - 0) size)
-      ∙ ap (λ βs. fill p i βs (map (read p cells) βs) cells) (labels ∙ sym (sent-carried s later i))

@@ -1,21 +1,25 @@
 -- A good record stands in a round of its plan.
 -- Assumes nothing.
 use Prim.Native.Nat.{ℕ, _≤_, _<_}
-use mathlib.Core.Path.{_≡_}
+use mathlib.Core.Path.{_≡_, refl, sym, subst}
 use mathlib.Core.Logic.{_≢_}
 use mathlib.Core.List.{List}
 use native.Mathlib.Omega.{arith}
 use lib.ListN.{length, length-take}
 use Rattle.sets.specs.Holders.{holderTable}
 use Rattle.plan.specs.declared.plan.Plan.{Plan}
-use Rattle.plan.specs.declared.schedule.Round.{Round}
-use Rattle.plan.specs.Schedule.{listed, rounds}
+use Rattle.plan.specs.Listed.{listed}
 use Rattle.plan.specs.Calls.{judged}
 use Rattle.plan.specs.Tabled.{Tabled}
+use Rattle.schedule.specs.declared.rounds.Round.{Round}
+use Rattle.schedule.specs.Schedule.{rounds}
+use Rattle.tree.specs.Places.{cellCount}
 use Rattle.protocol.specs.declared.records.Record.{Record}
-use Rattle.protocol.proofs.Judgement.{Good, plan-facts}
+use Rattle.protocol.specs.Rounds.{Board}
+use Rattle.protocol.specs.Calls.{judgeOpen}
+use Rattle.protocol.proofs.Judgement.{Good, plan-facts, open-facts}
 use Rattle.walk.proofs.Whole.{rounds-most}
-use Rattle.frames.specs.Nodes.{Standing}
+use Rattle.frames.specs.Nodes.{Standing, Stands}
 
 -- An accepted plan lists at most 32 sets.
 pub few-sets : (p : Plan) → judged p .number ≡ 0 → length (listed p) ≤ 255
@@ -48,3 +52,11 @@ standing p holders i k e below other low high t =
 pub good-stands : (r : Record) → Good r → (holders : List ℕ) → holders ≡ holderTable (listed (r .plan)) → Standing (r .plan) holders (r .board) (r .round)
 good-stands r g holders t =
     standing (r .plan) holders (r .board) (r .round) (g .plan-good) (g .below) (g .other) (g .position .round-low) (g .position .round-high) t
+
+-- An open board stands in its round, with any table that is the plan's.
+pub open-stands : (b : Board) → judgeOpen b .number ≡ 0
+    → Stands (b .rec .plan) (b .rec .board) (b .rec .round) × (cellCount (b .rec .plan .n) ≤ length (b .cells))
+open-stands b e = let o = open-facts b e in (good-stands (b .rec) (o .good) _ refl, o .room)
+
+pub with-table : {p : Plan} {i : ℕ} {k : Round} (holders : List ℕ) → Stands p i k → holders ≡ holderTable (listed p) → Standing p holders i k
+with-table {p} {i} {k} holders s t = subst (λ h. Standing p h i k) (sym t) s

@@ -1,19 +1,22 @@
 -- Storing and writing a frame, one value at a time.
 -- Assumes nothing.
-use Prim.Native.Nat.{ℕ, _+_, _≤_}
+use Prim.Native.Nat.{ℕ, suc, _+_, _*_, _≤_, _<_}
 use mathlib.Core.Path.{_≡_, refl, sym, _∙_, ap}
 use mathlib.Core.Logic.{_≢_}
 use mathlib.Core.Bool.{true, false}
-use mathlib.Core.List.{List, [], _∷_, _++_, map}
+use mathlib.Core.List.{List, [], _∷_, _++_, map, map-append}
 use native.Mathlib.Numerals.{add-one}
 use native.Mathlib.Omega.{arith}
 use lib.Dec.{eqb, ltb}
-use lib.ListN.{length, drop, set, drop-of-length-le, length-map}
-use lib.Seq.{drop-cons, sets, sets-eq}
-use borrow.Author.Tests.{eq-eqb, ne-eqb, ltb-true, ltb-false}
+use lib.ListN.{length, getD, take, drop, set, drop-of-length-le, length-map}
+use lib.Seq.{drop-cons, take-suc, length-take-le}
+use borrow.Author.Tests.{eq-eqb, ne-eqb, ltb-true, ltb-false, lt-ltb, le-ltb}
+use Rattle.codec.specs.Codec.{width, encode, written}
+use Rattle.codec.proofs.Codec.{written-next}
 use Rattle.sets.specs.Sets.{member}
 use Rattle.sets.proofs.Tests.{cases}
 use Rattle.plan.specs.declared.plan.Plan.{Plan}
+use Rattle.plan.specs.Values.{default, value}
 use Rattle.tree.specs.Labels.{Label}
 use Rattle.tree.specs.Places.{place}
 use Rattle.tree.specs.Cells.{store}
@@ -21,6 +24,15 @@ use Rattle.tree.proofs.Places.{root-place}
 use Rattle.protocol.specs.Nodes.{read}
 use Rattle.protocol.specs.Rounds.{fill, counted}
 use Rattle.frames.specs.Nodes.{entry}
+
+module _ (p : Plan) (vs : List ℕ) (u : ℕ) where
+  pub entry-some : u < length vs → entry p vs u ≡ value p (getD vs u 0)
+  unfolding entry
+  entry-some l = rw (lt-ltb u (length vs) l)
+
+  pub entry-none : length vs ≤ u → entry p vs u ≡ default p
+  unfolding entry
+  entry-none l = rw (le-ltb u (length vs) l)
 
 -- Value number u of a frame is stored, and then the rest.
 pub fill-step : (p : Plan) (q : ℕ) (α : Label) (αs βs : List Label) (u at v : ℕ) (vs cells : List ℕ)
@@ -35,18 +47,20 @@ fill-step p q α αs βs u at v vs cells x y z =
     let h′ : length vs ≤ u + 1 = omega arith in
     rw (e, drop-of-length-le vs h, drop-of-length-le vs h′)))
 
--- One value of a frame is written, and then the rest.
-pub write-step : (p : Plan) (cells out : List ℕ) (α : Label) (αs βs : List Label) (u v : ℕ) → βs ≡ α ∷ αs → v ≡ read p cells α
-    → sets out u (map (read p cells) βs) ≡ sets (set out u v) (u + 1) (map (read p cells) αs)
-write-step p cells out α αs βs u v x y = rw (x, y, add-one u)
+-- The values of the first u labels are written; then one more.
+abbrev pub sofar : Plan → List ℕ → List Label → ℕ → List ℕ → List ℕ
+sofar p cells αs u out = encode (map (read p cells) (take u αs)) ++ drop (width * u) out
 
--- All of it is written.
-pub write-all : (p : Plan) (cells out : List ℕ) (αs : List Label) → length αs ≤ length out
-    → sets out 0 (map (read p cells) αs) ≡ map (read p cells) αs ++ drop (length αs) out
-write-all p cells out αs h =
-    let e : length (map (read p cells) αs) ≡ length αs = length-map αs (read p cells) in
-    sets-eq (map (read p cells) αs) out 0 (omega arith)
-    ∙ ap (λ k. map (read p cells) αs ++ drop k out) (let z : 0 + length (map (read p cells) αs) ≡ length αs = omega arith in z)
+pub write-step : (p : Plan) (cells out : List ℕ) (αs : List Label) (u v : ℕ) → u < length αs → v ≡ read p cells (getD αs u [])
+    → written u v (sofar p cells αs u out) ≡ sofar p cells αs (u + 1) out
+write-step p cells out αs u v l e =
+    let vs = map (read p cells) (take u αs) in
+    let size : length vs ≡ u = length-map (take u αs) (read p cells) ∙ length-take-le u αs (omega arith) in
+    let more : map (read p cells) (take (suc u) αs) ≡ vs ++ (v ∷ []) =
+    ap (map (read p cells)) (take-suc αs u [] l) ∙ map-append (read p cells) (take u αs) (getD αs u [] ∷ []) ∙ ap (λ x. vs ++ (x ∷ [])) (sym e) in
+    written-next vs out v u size
+    ∙ ap (λ ws. encode ws ++ drop (width * suc u) out) (sym more)
+    ∙ ap (λ k. sofar p cells αs k out) (let z : suc u ≡ u + 1 = omega arith in z)
 
 -- What a frame counts as.
 module _ (detected q : ℕ) (αs : List Label) (f : List ℕ) where

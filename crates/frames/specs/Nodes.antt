@@ -8,10 +8,11 @@ use lib.Dec.{ltb}
 use lib.ListN.{length, getD}
 use Rattle.sets.specs.Holders.{holderTable}
 use Rattle.plan.specs.declared.plan.Plan.{Plan}
-use Rattle.plan.specs.declared.schedule.Round.{Round}
-use Rattle.plan.specs.Schedule.{listed, rounds}
+use Rattle.plan.specs.Listed.{listed}
 use Rattle.plan.specs.Values.{default, value}
 use Rattle.plan.specs.Calls.{judged}
+use Rattle.schedule.specs.declared.rounds.Round.{Round}
+use Rattle.schedule.specs.Schedule.{rounds}
 use Rattle.tree.specs.Labels.{Label, occurs, mask, last, labelAt}
 use Rattle.tree.specs.Places.{levelSize}
 
@@ -28,6 +29,10 @@ pub record Standing (p : Plan) (holders : List ℕ) (board : ℕ) (k : Round) : 
   pub round-high : k .0 ≤ rounds p .0
   pub rounds-most : rounds p .0 ≤ p .n
   pub table : holders ≡ holderTable (listed p)
+
+-- The same, with the plan's own table of holders.
+abbrev pub Stands : Plan → ℕ → Round → Type 0
+Stands p i k = Standing p (holderTable (listed p)) i k
 
 -- The label that a node's number stands for: crate walk has a node's number in its level, its last board and its boards in one.
 abbrev pub nodeAt : Plan → ℕ → ℕ → Label

@@ -1,4 +1,3 @@
-// The frames of a round: which are due, writing one, storing one, and what is stored when a round closes.
-pub mod gathering;
-pub mod sending;
+// The frames of a round: which are due, writing one, storing one.
 pub mod storing;
+pub mod writing;

@@ -1,4 +1,8 @@
 // Storing a frame at the children of the nodes that it carries.
+use codec::value::Value;
+use codec::value::value_at;
+use codec::value::value_count;
+use listing::listing::as_set;
 use plan::plan::Plan;
 use sets::boards::has;
 use tree::levels::level_start;
@@ -8,24 +12,25 @@ use walk::node::index_of;
 ghost use mathlib.Core.Path.{_≡_};
 ghost use Prim.Native.Nat.{_≤_, _<_};
 ghost use lib.ListN.{length};
+ghost use Rattle.codec.specs.Codec.{decode};
 ghost use Rattle.tree.specs.Places.{cellCount};
 ghost use Rattle.protocol.specs.Rounds.{fill, counted};
 ghost use Rattle.frames.specs.Nodes.{Nodes, Without, labelsOf, entry};
 
 // Value number i of a frame; the default where it has none.
-fn entry_at(plan: Plan, values: &[u8], i: usize) -> u8
-    ensures { λ v. ⌜ v ≡ entry plan (now (values .entry)) i ⌝ }
+fn entry_at(plan: Plan, frame: &[u8], i: usize) -> Value
+    ensures { λ v. ⌜ v ≡ entry plan (decode (now (frame .entry))) i ⌝ }
 {
-    if i < values.len() {
-        return plan.value(values[i]);
+    if i < value_count(frame) {
+        return plan.value(value_at(frame, i));
     }
     plan.default()
 }
 
-// The values are stored at the nodes' children by board q; where values are lacking, the default.
-pub fn store_at(plan: Plan, level: u8, q: u8, nodes: &[u32], values: &[u8], cells: &mut [u8])
+// A frame's values are stored at the nodes' children by board q; where values are lacking, the default.
+pub fn store_at(plan: Plan, level: u8, q: u8, nodes: &[u32], frame: &[u8], cells: &mut [Value])
     requires { ⌜ Nodes plan level (now nodes) × Without plan level q (now nodes) × (q < plan .n) × (cellCount (plan .n) ≤ length (now cells)) ⌝ }
-    ensures { λ _. ⌜ now (cells .exit) ≡ fill plan q (labelsOf plan level (now (nodes .entry))) (now (values .entry)) (now (cells .entry)) ⌝ }
+    ensures { λ _. ⌜ now (cells .exit) ≡ fill plan q (labelsOf plan level (now (nodes .entry))) (decode (now (frame .entry))) (now (cells .entry)) ⌝ }
 {
     let n = plan.n;
     let start = level_start(n, level + 1);
@@ -33,7 +38,7 @@ pub fn store_at(plan: Plan, level: u8, q: u8, nodes: &[u32], values: &[u8], cell
     while i < nodes.len() {
         let node = nodes[i];
         let child = child_index(n, level, index_of(node) as u16, boards_of(node), q);
-        cells[start + child] = entry_at(plan, values, i);
+        cells[start + child] = entry_at(plan, frame, i);
         i += 1;
     }
 }
@@ -46,14 +51,14 @@ pub fn store_frame(
     detected: u8,
     nodes: &[u32],
     frame: &[u8],
-    cells: &mut [u8],
+    cells: &mut [Value],
 )
     requires { ⌜ Nodes plan level (now nodes) × Without plan level q (now nodes) × (q < plan .n) × (cellCount (plan .n) ≤ length (now cells)) ⌝ }
-    ensures { λ _. ⌜ now (cells .exit) ≡ fill plan q (labelsOf plan level (now (nodes .entry))) (counted detected q (labelsOf plan level (now (nodes .entry))) (now (frame .entry))) (now (cells .entry)) ⌝ }
+    ensures { λ _. ⌜ now (cells .exit) ≡ fill plan q (labelsOf plan level (now (nodes .entry))) (counted detected q (labelsOf plan level (now (nodes .entry))) (decode (now (frame .entry)))) (now (cells .entry)) ⌝ }
 {
-    let mut count: usize = 0;
-    if frame.len() == nodes.len() && !has(detected, q) {
-        count = frame.len();
+    let mut length: usize = 0;
+    if value_count(frame) == nodes.len() && !has(as_set(detected), q) {
+        length = frame.len();
     }
-    store_at(plan, level, q, nodes, &frame[0..count], cells);
+    store_at(plan, level, q, nodes, &frame[0..length], cells);
 }

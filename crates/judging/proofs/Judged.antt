@@ -11,9 +11,9 @@ use borrow.Author.Tests.{eqb-true, eqb-false}
 use Rattle.sets.specs.Sets.{boards}
 use Rattle.sets.proofs.Tests.{cases}
 use Rattle.plan.specs.declared.plan.Plan.{Plan}
-use Rattle.plan.specs.Outcome.{Outcome, taken, refused}
-use Rattle.plan.specs.Calls.{andThen, judged}
-use Rattle.plan.proofs.Outcomes.{refused-first}
+use Rattle.refusals.specs.Outcome.{Outcome, taken, refused, andThen}
+use Rattle.plan.specs.Calls.{judged}
+use Rattle.refusals.proofs.Outcomes.{refused-first}
 use Rattle.tree.specs.Places.{countWithin}
 use Rattle.tree.proofs.Within.{count-within}
 use Rattle.protocol.specs.declared.records.Record.{Record}

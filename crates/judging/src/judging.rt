@@ -1,9 +1,12 @@
 // What the calls judge before they do anything.
+use codec::value::Value;
+use listing::listing::as_set;
 use plan::plan::Plan;
-use plan::refusal::Refusal;
-use plan::refusal::Verdict;
-use plan::refusal::first_of;
 use protocol::records::Record;
+use refusals::refusal::Refusal;
+use refusals::refusal::Verdict;
+use refusals::refusal::first_of;
+use schedule::rounds::has_round;
 use sets::boards::all_boards;
 use sets::boards::subset;
 use tree::levels::cell_count;
@@ -13,9 +16,10 @@ ghost use mathlib.Core.List.{[]};
 ghost use Prim.Native.Nat.{_≤_};
 ghost use lib.Dec.{ltb};
 ghost use lib.ListN.{length};
-ghost use Rattle.plan.specs.Outcome.{taken, refused, verdict};
+ghost use Rattle.refusals.specs.Outcome.{taken, refused, verdict};
 ghost use Rattle.tree.specs.Places.{countWithin};
 ghost use Rattle.protocol.specs.Calls.{isTaken, judgeBoard, goodMarks, goodDecision, goodRecord, judgeRecord, judgeOpen};
+ghost use Rattle.protocol.specs.Rounds.{boardWith};
 
 // The board's number: 9 and 10.
 pub fn judge_number(plan: Plan, board: u8) -> Verdict
@@ -33,7 +37,7 @@ pub fn judge_number(plan: Plan, board: u8) -> Verdict
 }
 
 // The board's cells: 11.
-pub fn judge_cells(plan: Plan, cells: &[u8]) -> Verdict
+pub fn judge_cells(plan: Plan, cells: &[Value]) -> Verdict
     ensures { λ v. ⌜ verdict v ≡ cond (ltb (length (now (cells .entry))) (countWithin (plan .n))) (refused 11) (taken []) ⌝ }
 {
     if cells.len() < cell_count(plan.n) {
@@ -60,7 +64,7 @@ fn has_good_fields(r: Record) -> bool
     let decided = r.decided;
     let decision = r.decision;
     let span = r.plan.span;
-    if !subset(r.detected, all) {
+    if !subset(as_set(r.detected), all) {
         return false;
     }
     if !subset(r.taken, all) {
@@ -82,7 +86,7 @@ fn is_good(r: Record) -> bool
     if !is_accepted(judge_number(r.plan, r.board)) {
         return false;
     }
-    if !r.plan.has_round(r.run, r.round) {
+    if !has_round(r.plan, r.run, r.round) {
         return false;
     }
     has_good_fields(r)
@@ -109,8 +113,8 @@ fn judge_decided(decided: bool) -> Verdict
 }
 
 // 12, 11, 13.
-pub fn judge_open(r: Record, cells: &[u8]) -> Verdict
-    ensures { λ v. ⌜ verdict v ≡ judgeOpen (record { rec = r; cells = now (cells .entry) }) ⌝ }
+pub fn judge_open(r: Record, cells: &[Value]) -> Verdict
+    ensures { λ v. ⌜ verdict v ≡ judgeOpen (boardWith r (now (cells .entry))) ⌝ }
 {
     let record_judged = judge_record(r);
     let cells_judged = judge_cells(r.plan, cells);

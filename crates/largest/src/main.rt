@@ -1,13 +1,16 @@
 // Closes the largest round, round 7 of seven boards with 1,957 cells, a hundred times; writes the decision and the list.
 use beginning::beginning::begin;
 use closing::closing::close;
+use codec::value::Value;
 use libc::STDOUT_FILENO;
+use listing::listing::as_set;
 use plan::plan::Plan;
 use plan::plan::Settings;
-use plan::schedule::Round;
+use protocol::limits::PART;
+use schedule::rounds::Round;
 
 // Cells of many values.
-fn scatter(cells: &mut [u8]) {
+fn scatter(cells: &mut [Value]) {
     let mut i: usize = 0;
     while i < cells.len() {
         cells[i] = (i % 251) as u8;
@@ -25,7 +28,7 @@ fn main() {
         depth: 0,
     };
     let planned = Plan::new(7, &sets[0..32], settings);
-    let mut cells = [0u8; 1957];
+    let mut cells = [0u8; PART];
     let begun = begin(planned.plan, 6, &mut cells);
     let mut r = begun.rec;
     let round = Round(7);
@@ -36,7 +39,7 @@ fn main() {
         scatter(&mut cells);
         let closed = close(r, &mut cells);
         out[0] = closed.rec.decision;
-        out[1] = closed.rec.detected;
+        out[1] = as_set(closed.rec.detected);
         i += 1;
     }
     io::write_all(STDOUT_FILENO, &out);

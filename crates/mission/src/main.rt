@@ -1,19 +1,21 @@
 // One board's session in flight: board 1 of four, whose dealer, board 0, tells board 3 another value.
 use beginning::beginning::begin;
-use closing::deciding::decide;
-use exchange::receiving::receive;
-use exchange::sending::send;
+use codec::value::Value;
+use deciding::deciding::decide;
 use flight::lent::close_lent;
 use libc::STDOUT_FILENO;
+use listing::listing::as_set;
 use plan::plan::Plan;
 use plan::plan::Settings;
 use protocol::answers::Decision;
 use protocol::records::Record;
+use receiving::receiving::receive;
+use sending::sending::send;
 ghost use mathlib.Core.Path.{_≡_};
 ghost use Rattle.flight.specs.Lent.{lentClosing};
 
 // Closes a round: the record is lent to the call.
-fn close_round(r: Record, cells: &mut [u8]) -> Record
+fn close_round(r: Record, cells: &mut [Value]) -> Record
     ensures { λ x. ⌜ (x ≡ lentClosing r (now (cells .entry)) .rec) × (now (cells .exit) ≡ lentClosing r (now (cells .entry)) .cells) ⌝ }
 {
     let mut own = r;
@@ -43,11 +45,11 @@ fn main() {
     let from_3 = [7u8];
     let third = receive(second.rec, &mut cells, 3, &from_3);
     let last = close_round(third.rec, &mut cells);
-    // Its frame, the decision and the list.
+    // Its frame, the decision, and the list as a set.
     let decision = match decide(last) {
         Decision::Value(v) => v,
         Decision::Refused(_) => 255,
     };
-    let out = [frame[0], decision, last.detected];
+    let out = [frame[0], decision, as_set(last.detected)];
     io::write_all(STDOUT_FILENO, &out);
 }

@@ -1,12 +1,4 @@
-pub mod Cover
-pub mod Pairs
-pub mod ThreeCover
-pub mod Outcomes
-pub mod Levels
-pub mod HasRound
-pub mod Height
-pub mod Steps
-pub mod Injective
-pub mod Together
+pub mod Accepted
+pub mod Slots
 pub mod Tabled
 pub mod Own

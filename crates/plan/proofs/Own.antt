@@ -8,9 +8,10 @@ use lib.ListN.{length, take}
 use lib.Seq.{length-take-le}
 use borrow.Author.Tests.{eq-eqb, ne-eqb, lt-ltb, le-ltb}
 use Rattle.plan.specs.declared.plan.Plan.{Plan}
-use Rattle.plan.specs.Schedule.{listed}
-use Rattle.plan.specs.Outcome.{refused}
-use Rattle.plan.specs.Calls.{andThen, admitting, planning, settingsOf, judged}
+use Rattle.plan.specs.Listed.{listed}
+use Rattle.refusals.specs.Outcome.{refused, andThen}
+use Rattle.admission.specs.Calls.{admitting}
+use Rattle.plan.specs.Calls.{planning, settingsOf, judged}
 
 -- A plan with a count above 32.
 pub judged-none : (p : Plan) → p .n ≡ 0 → judged p ≡ refused 1

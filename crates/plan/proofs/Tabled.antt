@@ -9,10 +9,10 @@ use lib.Dec.{eqb}
 use lib.ListN.{length, getD}
 use lib.Pow.{pow-mono}
 use Rattle.sets.specs.Structure.{tolerated}
-use Rattle.sets.specs.Holders.{Asked, heldAt}
+use Rattle.sets.specs.Holders.{Asked}
 use Rattle.sets.proofs.Held.{table-length, table-at, held-tolerated}
 use Rattle.plan.specs.declared.plan.Plan.{Plan}
-use Rattle.plan.specs.Schedule.{listed}
+use Rattle.plan.specs.Listed.{listed}
 use Rattle.plan.specs.Tabled.{Tabled}
 
 -- A set of the plan's boards is one of the 128.

@@ -1,30 +1,14 @@
--- The two public calls: admitting a list of sets, and planning.
+-- The public call that makes a plan, and what it says of a plan's own fields.
 use Prim.Native.Nat.{ℕ, _-_}
 use mathlib.Core.Bool.{Bool, not, _&&_, _||_, cond}
 use mathlib.Core.List.{List, [], _++_}
 use lib.Dec.{eqb, leb, ltb}
 use lib.ListN.{length, replicate}
-use Rattle.plan.specs.Cover.{strays, covered, places}
-use Rattle.plan.specs.Outcome.{Outcome, taken, refused, refusedAt}
-use Rattle.plan.specs.Schedule.{listed}
+use Rattle.refusals.specs.Outcome.{Outcome, taken, refused, andThen}
+use Rattle.admission.specs.Calls.{admitting}
+use Rattle.plan.specs.Listed.{listed}
 use Rattle.plan.specs.declared.plan.Plan.{Plan}
 use Rattle.plan.specs.declared.plan.Settings.{Settings}
-
--- 01, 'Admitting sets', 5: three sets cover all boards, with the places of the first such triple.
-unfoldable pub covering : ℕ → List ℕ → Outcome
-covering n sets = let triple = refusedAt (places n sets) in cond (covered n sets) triple (taken [])
-
--- 01, 'Admitting sets': the first of 1 to 5 that applies to `count` sets.
-unfoldable pub admitting : ℕ → ℕ → List ℕ → Outcome
-admitting n count sets =
-    cond (eqb n 0 || ltb 7 n) (refused 1)
-    (cond (eqb count 0) (refused 2)
-    (cond (ltb 32 count) (refused 3)
-    (cond (strays n sets) (refused 4) (covering n sets))))
-
--- What is judged first, if it refuses; else the next.
-unfoldable pub andThen : Outcome → Outcome → Outcome
-andThen first next = cond (eqb (first .number) 0) next first
 
 -- 01: "a depth b, which is 0 or 4 to 7".
 unfoldable pub isDepth : ℕ → Bool

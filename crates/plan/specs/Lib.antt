@@ -1,8 +1,4 @@
-pub mod Cover
-pub mod Pairs
-pub mod Outcome
-pub mod Schedule
+pub mod Listed
 pub mod Calls
-pub mod Claims
 pub mod Values
 pub mod Tabled

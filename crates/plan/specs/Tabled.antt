@@ -5,7 +5,7 @@ use mathlib.Core.List.{List}
 use lib.ListN.{length}
 use Rattle.sets.specs.Holders.{holderTable}
 use Rattle.plan.specs.declared.plan.Plan.{Plan}
-use Rattle.plan.specs.Schedule.{listed}
+use Rattle.plan.specs.Listed.{listed}
 
 -- At most seven boards, places that a byte holds, and the plan's own table.
 pub record Tabled (p : Plan) (holders : List ℕ) : Type 0 where

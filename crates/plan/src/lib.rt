@@ -1,6 +1,4 @@
-// Plans: admitting sets, planning, and the rounds of a plan.
-pub mod admission;
+// Plans: planning, and the listed sets and values of a plan.
+pub mod listed;
 pub mod plan;
-pub mod refusal;
-pub mod schedule;
 pub mod values;

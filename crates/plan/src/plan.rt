@@ -1,12 +1,15 @@
 // Plans, and the call that makes one.
-use crate::admission::admit;
-use crate::refusal::Refusal;
-use crate::refusal::Verdict;
+use admission::admitting::admit;
+use admission::limits::BOARDS;
+use admission::limits::SETS;
+use codec::value::Value;
+use refusals::refusal::Refusal;
+use refusals::refusal::Verdict;
 ghost use mathlib.Core.Path.{_≡_};
 ghost use Prim.Native.Nat.{_-_, _≤_};
 ghost use mathlib.Core.List.{_++_};
 ghost use lib.ListN.{length, replicate};
-ghost use Rattle.plan.specs.Outcome.{verdict};
+ghost use Rattle.refusals.specs.Outcome.{verdict};
 ghost use Rattle.plan.specs.Calls.{judgeSettings, planning, planned, planOn, voidPlan, judged};
 
 // A list of sets, a dealer, a span (values are below it) and a depth (0: the tree is not cut).
@@ -14,16 +17,16 @@ ghost use Rattle.plan.specs.Calls.{judgeSettings, planning, planned, pla
 pub struct Plan {
     pub n: u8,
     pub dealer: u8,
-    pub span: u8,
+    pub span: Value,
     pub depth: u8,
     pub count: u8,
-    pub sets: [u8; 32],
+    pub sets: [u8; SETS],
 }
 
 // What a plan has beside its sets: a dealer, a span and a depth.
 pub struct Settings {
     pub dealer: u8,
-    pub span: u8,
+    pub span: Value,
     pub depth: u8,
 }
 
@@ -35,17 +38,17 @@ pub struct Planned {
 
 impl Plan {
     // The most boards.
-    pub const BOARDS: u8 = 7;
+    pub const BOARDS: u8 = BOARDS;
     // The most sets.
-    pub const SETS: usize = 32;
+    pub const SETS: usize = SETS;
     // The least span.
-    pub const SPAN: u8 = 2;
+    pub const SPAN: Value = 2;
     // The depths of a cut tree.
     pub const SHALLOW: u8 = 4;
 
     pub const DEEP: u8 = 7;
     // A cell without a value; no value is it, since values are below a span of at most this.
-    pub const BLANK: u8 = 255;
+    pub const BLANK: Value = 255;
 
     // Planning: 1 to 8, in order.
     pub fn new(n: u8, sets: &[u8], settings: Settings) -> Planned
@@ -104,7 +107,7 @@ impl Plan {
             span: 0,
             depth: 0,
             count: 0,
-            sets: [0u8; 32],
+            sets: [0u8; SETS],
         }
     }
 
@@ -126,11 +129,11 @@ impl Plan {
 }
 
 // At most 32 sets in 32 slots, 00 past the last.
-fn copied(sets: &[u8]) -> [u8; 32]
+fn copied(sets: &[u8]) -> [u8; SETS]
     requires { ⌜ length (now sets) ≤ 32 ⌝ }
     ensures { λ r. ⌜ r ≡ now (sets .entry) ++ replicate (32 - length (now (sets .entry))) 0 ⌝ }
 {
-    let mut slots = [0u8; 32];
+    let mut slots = [0u8; SETS];
     let mut i = 0;
     while i < sets.len() {
         slots[i] = sets[i];

@@ -1,18 +1,19 @@
 // The values of a plan.
 use crate::plan::Plan;
+use codec::value::Value;
 ghost use mathlib.Core.Path.{_≡_};
 ghost use Rattle.plan.specs.Values.{default, value};
 
 impl Plan {
     // What stands in for a value that is missing or masked.
-    pub fn default(self) -> u8
+    pub fn default(self) -> Value
         ensures { λ r. ⌜ r ≡ default self ⌝ }
     {
         0
     }
 
     // A cell of m or more, read as a value, counts as the default.
-    pub fn value(self, x: u8) -> u8
+    pub fn value(self, x: Value) -> Value
         ensures { λ r. ⌜ r ≡ value self x ⌝ }
     {
         if x < self.span {

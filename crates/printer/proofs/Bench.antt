@@ -1,17 +1,18 @@
 -- What is reported for a sheet that was played is what the program prints.
 -- Assumes nothing.
-use Prim.Native.Nat.{ℕ, _≤_}
+use Prim.Native.Nat.{ℕ, _≤_, _<_}
 use mathlib.Core.Path.{_≡_, refl, sym, ap, ap₂, _∙_}
 use mathlib.Core.Logic.{_≢_}
 use mathlib.Core.Bool.{Bool, true, false, cond}
-use mathlib.Core.List.{List}
+use mathlib.Core.List.{List, []}
 use native.Mathlib.Omega.{arith}
 use lib.Dec.{eqb, ltb}
 use lib.ListN.{length, getD, take, drop, length-append, length-drop}
 use lib.Seq.{take-at}
-use borrow.Author.Tests.{eq-eqb, ne-eqb, eqb-false}
-use Rattle.plan.specs.Outcome.{Outcome, refused, refusal}
-use Rattle.plan.proofs.Outcomes.{refusal-number}
+use borrow.Author.Tests.{eq-eqb, ne-eqb, eqb-false, ltb-true, ltb-false, lt-ltb}
+use Rattle.sets.proofs.Tests.{cases}
+use Rattle.refusals.specs.Outcome.{Outcome, refused, refusal}
+use Rattle.refusals.proofs.Outcomes.{refusal-number}
 use Rattle.protocol.specs.Limits.{sheetMost, outputNeeded, cellsNeeded}
 use Rattle.protocol.specs.declared.answers.Played.{Played}
 use Rattle.protocol.specs.declared.answers.Played.the-variants.{Written, Refused}
@@ -92,3 +93,34 @@ bench-prints text cells out out₁ (Refused why line) l e eo =
     ∙ take-at text′ (drop 9 out₁) 9 (refusal-size (refusal why .number) line)
     ∙ ap₂ refusalText number values
     ∙ sym (prints-refusal text cells out (λ z. refusal-number why (number ∙ z)))
+
+-- An answer that is a refusal.
+abbrev Refuses : Play → Type 0
+Refuses p = p .answer .number ≢ 0
+
+refuses-cond : (b : Bool) (x y : Play) → (b ≡ true → Refuses x) → (b ≡ false → Refuses y) → Refuses (cond b x y)
+refuses-cond true x y f g = f refl
+refuses-cond false x y f g = g refl
+
+-- Playing with an output that is too short is refused.
+short-refuses : (text cells out : List ℕ) → length out < outputNeeded → Refuses (playing text cells out)
+unfolding playing refusedPlay wrongAt
+short-refuses text cells out l =
+    refuses-cond (ltb sheetMost (length text)) _ _ (λ e z. absurd (omega arith))
+    (λ e. refuses-cond (ltb (length out) outputNeeded) _ _ (λ e z. absurd (omega arith)) (λ e. absurd (omega (arith, ltb-false (length out) outputNeeded e))))
+
+-- Nothing is reported where a refusal does not fit.
+short-length : (a : Played) (text cells out out₁ : List ℕ) → length out < 9 → length out₁ ≡ length out
+    → playedSays a ≡ playing text cells out .answer → reportLength a out₁ ≡ 0
+unfolding playedSays reportLength
+short-length (Written k) text cells out out₁ l el e = absurd (short-refuses text cells out (omega arith) (sym (ap (λ o. o .number) e)))
+short-length (Refused why line) text cells out out₁ l el e = rw (lt-ltb (length out₁) 9 (omega arith)) refl
+
+-- The same for an output of any length.
+pub sheet-prints : (a : Played) (text cells out out₁ : List ℕ) → length out₁ ≡ length out
+    → playedSays a ≡ playing text cells out .answer → out₁ ≡ playing text cells out .out
+    → take (reportLength a out₁) (reportOut a out₁) ≡ cond (ltb (length out) 9) [] (benchPrints text cells out)
+sheet-prints a text cells out out₁ el e eo =
+    cases (ltb (length out) 9)
+    (λ t. rw t (ap (λ k. take k (reportOut a out₁)) (short-length a text cells out out₁ (ltb-true (length out) 9 t) el e)))
+    (λ t. rw t (bench-prints text cells out out₁ a (ltb-false (length out) 9 t) e eo))

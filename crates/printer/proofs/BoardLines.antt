@@ -11,22 +11,24 @@ use lib.Dec.{eqb, leb}
 use lib.ListN.{length, getD, drop, length-append, List·getD-map}
 use lib.Seq.{sets}
 use borrow.Author.Tests.{eqb-false, lt-leb, le-leb}
+use Rattle.codec.specs.Codec.{encode}
 use Rattle.sets.specs.Sets.{member}
 use Rattle.sets.proofs.Tests.{cases}
-use Rattle.protocol.specs.Limits.{outputNeeded}
+use Rattle.protocol.specs.Limits.{lineLength, outputNeeded}
 use Rattle.protocol.specs.declared.records.Record.{Record}
 use Rattle.protocol.specs.Calls.{voidRecord}
-use Rattle.protocol.specs.Rounds.{Board}
+use Rattle.protocol.specs.Rounds.{boardWith, Board}
 use Rattle.protocol.specs.Session.{Boards, boardAt, nobody}
 use Rattle.protocol.specs.Sheet.{Head}
-use Rattle.protocol.specs.Playing.{hexByte, printed, boardLine, printBoards}
+use Rattle.hex.specs.Hex.{hexByte, hexBytes}
+use Rattle.protocol.specs.Playing.{hexValue, printed, boardLine, printBoards}
 use Rattle.printer.specs.Printed.{printHead, boardsOf, boardLines}
 use Rattle.printer.proofs.Stores.{stores-more}
 
 -- The record of board i.
 pub record-at : (records : List Record) (i : ℕ) → boardAt (boardsOf records) i .rec ≡ getD records i voidRecord
 unfolding boardAt boardsOf nobody
-record-at records i = ap (λ (b : Board). b .rec) (List·getD-map (λ (r : Record). record { rec = r; cells = [] }) records i voidRecord)
+record-at records i = ap (λ (b : Board). b .rec) (List·getD-map (λ (r : Record). boardWith r ([])) records i voidRecord)
 
 -- Its decision and its list, as the code reads them: with any record for want of one that has decision 0 and an empty list.
 pub decision-at : (records : List Record) (i : ℕ) (other : Record) → other .decision ≡ 0
@@ -61,7 +63,7 @@ module _ (h : Head) (w : Boards) where
 
   -- A line stands before the rest.
   line-first : (i : ℕ) (rest : List ℕ) → boardLine h w i rest ≡ boardLine h w i [] ++ rest
-  unfolding printed hexByte
+  unfolding encode printed hexByte hexBytes hexValue
   line-first i rest =
       cases (member i (h .faulty))
       (λ f. rw (line-faulty i rest f, line-faulty i [] f) refl)
@@ -89,9 +91,9 @@ module _ (h : Head) (w : Boards) where
   unfolding printBoards
   lines-none = refl
 
-  -- A line has seven bytes, or none.
-  pub line-size : (i : ℕ) → member i (h .faulty) ≡ false → length (boardLine h w i []) ≡ 7
-  unfolding printed hexByte
+  -- A line has its length, or nothing is printed.
+  pub line-size : (i : ℕ) → member i (h .faulty) ≡ false → length (boardLine h w i []) ≡ lineLength
+  unfolding encode printed hexByte hexBytes hexValue
   line-size i f = cases (eqb i (h .dealer)) (λ d. rw (line-dealer i [] f d) refl) (λ d. rw (line-other i [] f d) refl)
 
   pub print-short : (k : ℕ) → length (printBoards h w 0 k) ≤ 7 * k

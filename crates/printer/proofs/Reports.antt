@@ -9,8 +9,8 @@ use lib.ListN.{length, drop}
 use lib.Seq.{sets}
 use borrow.Author.Tests.{lt-ltb, le-ltb, ltb-false}
 use Rattle.sets.proofs.Tests.{cases}
-use Rattle.plan.specs.declared.refusal.Refusal.{Refusal}
-use Rattle.plan.specs.Outcome.{refusal}
+use Rattle.refusals.specs.declared.refusal.Refusal.{Refusal}
+use Rattle.refusals.specs.Outcome.{refusal}
 use Rattle.protocol.specs.declared.answers.Played.{Played}
 use Rattle.protocol.specs.declared.answers.Played.the-variants.{Written, Refused}
 use Rattle.protocol.specs.Playing.{refusalText}

@@ -1,13 +1,15 @@
--- Bytes, lines and refusals as runs of stores.
+-- Lines and refusals as runs of stores.
 -- Assumes nothing.
 use Prim.Native.Nat.{ℕ, suc, _+_, _/_, _%_, _≤_}
 use mathlib.Core.Path.{_≡_, refl, ap, _∙_}
 use mathlib.Core.List.{List, [], _∷_, _++_}
-use native.Mathlib.Numerals.{add-one, add-two, add-four, add-six}
+use native.Mathlib.Numerals.{add-two, add-four, add-six}
 use native.Mathlib.Omega.{arith}
 use lib.ListN.{length, drop, set}
 use lib.Seq.{sets, sets-eq}
-use Rattle.protocol.specs.Playing.{hexDigit, hexByte, printed, refusalText}
+use Rattle.codec.specs.Codec.{encode}
+use Rattle.hex.specs.Hex.{hexByte, hexBytes}
+use Rattle.protocol.specs.Playing.{hexValue, printed, refusalText}
 
 -- Two runs, one after the other.
 pub stores-more : (l a b : List ℕ) (i k : ℕ) → k ≡ i + length a → sets (sets l i a) k b ≡ sets l i (a ++ b)
@@ -20,15 +22,10 @@ stores-first l a h =
     let z : 0 + length a ≡ length a = omega arith in
     sets-eq a l 0 (omega arith) ∙ ap (λ k. a ++ drop k l) z
 
-pub byte-stores : (o : List ℕ) (at x high low : ℕ) → high ≡ hexDigit (x / 16) → low ≡ hexDigit (x % 16)
-    → set (set o at high) (at + 1) low ≡ sets o at (hexByte x [])
-unfolding hexByte
-byte-stores o at x high low eh el = rw (eh, el, add-one at) refl
-
 pub line-stores : (o : List ℕ) (at board decision detected : ℕ)
-    → set (sets (sets (sets o at (hexByte board [])) (at + 2) (hexByte decision [])) (at + 4) (hexByte detected [])) (at + 6) 10
+    → set (sets (sets (sets o at (hexByte board [])) (at + 2) (hexValue decision [])) (at + 4) (hexByte detected [])) (at + 6) 10
     ≡ sets o at (printed board decision detected [])
-unfolding hexByte printed
+unfolding encode hexByte hexBytes hexValue printed
 line-stores o at board decision detected = rw (add-two at, add-four at, add-six at) refl
 
 pub refusal-stores : (o : List ℕ) (number line : ℕ)

@@ -4,7 +4,7 @@ use mathlib.Core.Bool.{_&&_, cond}
 use mathlib.Core.List.{List, [], map, _++_}
 use lib.Dec.{leb, ltb}
 use lib.ListN.{length, drop}
-use Rattle.plan.specs.Outcome.{refusal}
+use Rattle.refusals.specs.Outcome.{refusal}
 use Rattle.protocol.specs.Limits.{outputNeeded}
 use Rattle.protocol.specs.declared.records.Record.{Record}
 use Rattle.protocol.specs.declared.answers.Played.{Played}
@@ -12,6 +12,7 @@ use Rattle.protocol.specs.declared.answers.Played.the-variants.{Written, Refuse
 use Rattle.protocol.specs.Session.{Boards}
 use Rattle.protocol.specs.Sheet.{Head}
 use Rattle.protocol.specs.Playing.{printBoards, refusalText}
+use Rattle.protocol.specs.Rounds.{boardWith}
 
 -- A head with what printing reads of it.
 unfoldable pub printHead : ℕ → ℕ → ℕ → ℕ → Head
@@ -19,7 +20,7 @@ printHead n dealer faulty word = record { n = n; span = 0; dealer = dealer; dept
 
 -- Boards with these records; printing reads no cells.
 unfoldable pub boardsOf : List Record → Boards
-boardsOf records = map (λ r. record { rec = r; cells = [] }) records
+boardsOf records = map (λ r. boardWith r ([])) records
 
 -- The lines of all boards outside F; nothing for more than seven boards, or if the output is too short.
 unfoldable pub boardLines : ℕ → ℕ → ℕ → ℕ → List Record → List ℕ → List ℕ

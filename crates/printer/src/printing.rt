@@ -1,49 +1,51 @@
 // Lines of uppercase hexadecimal.
-use plan::refusal::Refusal;
+use codec::value::Value;
+use codec::value::WIDTH;
+use hex::writing::print_byte;
+use listing::listing::as_set;
 use protocol::answers::Played;
+use protocol::limits::LINE;
 use protocol::limits::OUTPUT;
 use protocol::records::Record;
+use refusals::refusal::Refusal;
 use sets::boards::has;
 ghost use mathlib.Core.Path.{_≡_};
 ghost use mathlib.Core.Bool.{cond};
 ghost use mathlib.Core.List.{[], _++_};
-ghost use Prim.Native.Nat.{_+_, _≤_, _<_};
+ghost use Prim.Native.Nat.{_+_, _*_, _≤_};
 ghost use lib.Dec.{eqb};
 ghost use lib.ListN.{length, drop};
 ghost use lib.Seq.{sets};
-ghost use Rattle.plan.specs.Outcome.{refusal};
-ghost use Rattle.protocol.specs.Playing.{hexDigit, hexByte, printed, refusalText};
+ghost use Rattle.refusals.specs.Outcome.{refusal};
+ghost use Rattle.codec.specs.Codec.{width};
+ghost use Rattle.protocol.specs.Limits.{lineLength};
+ghost use Rattle.protocol.specs.Playing.{hexValue, printed, refusalText};
 ghost use Rattle.printer.specs.Printed.{boardLines, reportLength, reportOut};
 
-// A digit as a character.
-fn digit_char(x: u8) -> u8
-    requires { ⌜ x < 16 ⌝ }
-    ensures { λ r. ⌜ r ≡ hexDigit x ⌝ }
+// A value as the digits of its bytes.
+fn print_value(out: &mut [u8], at: usize, v: Value)
+    requires { ⌜ at + 2 * width ≤ length (now out) ⌝ }
+    ensures { λ _. ⌜ now (out .exit) ≡ sets (now (out .entry)) at (hexValue v []) ⌝ }
 {
-    if x < 10 {
-        return 48 + x;
-    }
-    55 + x
+    print_byte(out, at, v);
 }
 
-// A byte as two digits.
-fn print_byte(out: &mut [u8], at: usize, x: u8)
-    requires { ⌜ at + 2 ≤ length (now out) ⌝ }
-    ensures { λ _. ⌜ now (out .exit) ≡ sets (now (out .entry)) at (hexByte x []) ⌝ }
-{
-    out[at] = digit_char(x / 16);
-    out[at + 1] = digit_char(x % 16);
-}
+// Where a line's decision stands, its list, and its newline.
+const DECISION: usize = 2;
+
+const LIST: usize = DECISION + 2 * WIDTH;
+
+const NEWLINE: usize = LINE - 1;
 
 // A board's line: board, decision, list as a set.
-fn print_line(out: &mut [u8], at: usize, board: u8, decision: u8, detected: u8)
-    requires { ⌜ at + 7 ≤ length (now out) ⌝ }
+fn print_line(out: &mut [u8], at: usize, board: u8, decision: Value, detected: u8)
+    requires { ⌜ at + lineLength ≤ length (now out) ⌝ }
     ensures { λ _. ⌜ now (out .exit) ≡ sets (now (out .entry)) at (printed board decision detected []) ⌝ }
 {
     print_byte(out, at, board);
-    print_byte(out, at + 2, decision);
-    print_byte(out, at + 4, detected);
-    out[at + 6] = 10;
+    print_value(out, at + DECISION, decision);
+    print_byte(out, at + LIST, detected);
+    out[at + NEWLINE] = 10;
 }
 
 // What a line shows of board i: the dealer has a value of its own.
@@ -61,7 +63,7 @@ pub fn print_boards(
     n: u8,
     dealer: u8,
     faulty: u8,
-    word: u8,
+    word: Value,
     records: [Record; 7],
     out: &mut [u8],
 ) -> usize
@@ -79,9 +81,9 @@ pub fn print_boards(
         let r = records[i as usize];
         if !has(faulty, i) {
             let decision = shown(i, dealer, word, r.decision);
-            let detected = shown(i, dealer, 0, r.detected);
+            let detected = shown(i, dealer, 0, as_set(r.detected));
             print_line(out, used, i, decision, detected);
-            used += 7;
+            used += LINE;
         }
         i += 1;
     }

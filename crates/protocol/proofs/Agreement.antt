@@ -11,11 +11,11 @@ use native.Mathlib.Nat.{suc-mul, zero-mul}
 use lib.ListN.{length}
 use Rattle.sets.specs.Sets.{member, size}
 use Rattle.plan.specs.declared.plan.Plan.{Plan}
-use Rattle.plan.specs.declared.schedule.Run.{Run}
-use Rattle.plan.specs.declared.schedule.Round.{Round}
-use Rattle.plan.specs.Schedule.{rounds, runs, steps, step, stepRun, stepRound}
-use Rattle.plan.proofs.Levels.{rounds-pos}
-use Rattle.plan.proofs.Steps.{Has, run-of-step, round-of-step, step-high, later-rounds}
+use Rattle.schedule.specs.declared.rounds.Run.{Run}
+use Rattle.schedule.specs.declared.rounds.Round.{Round}
+use Rattle.schedule.specs.Schedule.{rounds, runs, steps, step, stepRun, stepRound}
+use Rattle.schedule.proofs.Levels.{rounds-pos}
+use Rattle.schedule.proofs.Steps.{Has, run-of-step, round-of-step, step-high, later-rounds}
 use Rattle.tree.specs.Labels.{Label, last}
 use Rattle.tree.proofs.Labels.{root-has}
 use Rattle.theory.specs.Tree as T
@@ -30,7 +30,7 @@ use Rattle.protocol.specs.Lists.{keeper, Sound}
 use Rattle.protocol.proofs.Nodes.{inner-has}
 use Rattle.protocol.proofs.Bounds.{root-small}
 use Rattle.protocol.proofs.Instance.{inst, node-mem, node-level, resolve-inst, node-size}
-use Rattle.protocol.proofs.Gathering.{listOf}
+use Rattle.protocol.proofs.Listing.{listOf}
 use Rattle.protocol.proofs.Converting.{convert-cells}
 use Rattle.protocol.proofs.Delivery.{healthy-keeper}
 use Rattle.protocol.proofs.Soundness.{open-round, inv, flow, scan-is, scan-lists, scan-root, run-ends, some-value, dealer-below, lists-within, root-read}

@@ -16,9 +16,9 @@ use Rattle.sets.specs.Sets.{member, insert, within}
 use Rattle.sets.proofs.Tests.{cases, clash, and-true}
 use Rattle.sets.proofs.Member.{member-insert, member-within}
 use Rattle.plan.specs.declared.plan.Plan.{Plan}
-use Rattle.plan.specs.declared.schedule.Round.{Round}
-use Rattle.plan.specs.Outcome.{taken, refused}
-use Rattle.plan.proofs.Outcomes.{taken-first}
+use Rattle.schedule.specs.declared.rounds.Round.{Round}
+use Rattle.refusals.specs.Outcome.{taken, refused}
+use Rattle.refusals.proofs.Outcomes.{taken-first}
 use Rattle.tree.specs.Labels.{Label}
 use Rattle.tree.specs.Places.{cellCount, place}
 use Rattle.tree.specs.Cells.{cellAt, store}
@@ -26,12 +26,12 @@ use Rattle.tree.proofs.Places.{place-injective}
 use Rattle.protocol.specs.declared.records.Record.{Record}
 use Rattle.plan.specs.Values.{default, value}
 use Rattle.protocol.specs.Nodes.{read, sent, due, frame}
-use Rattle.protocol.specs.Rounds.{Board, fill, counted, receive}
+use Rattle.protocol.specs.Rounds.{boardWith, Board, fill, counted, receive}
 use Rattle.protocol.specs.Calls.{judgeOpen, judgeReceiving, frameOf}
 use Rattle.protocol.proofs.Nodes.{inner-inv, node-label, node-length, sent-inv, sent-first}
 use Rattle.protocol.proofs.Fill.{IsLabel, Children}
 use Rattle.protocol.proofs.Judgement.{Good, good-dealer, open-taken}
-use Rattle.protocol.proofs.Bounds.{insert-below}
+use Rattle.protocol.proofs.Listing.{insert-below}
 use Rattle.protocol.proofs.Reached.{due-sender}
 use Rattle.protocol.specs.Records.{withTaken}
 use Rattle.protocol.proofs.Hearing.{isGiven, accepts, marks, content, heardCells, marks-at, marks-below, heard, heard-open, heard-outside, sent-label}
@@ -203,7 +203,7 @@ map-same f g (α ∷ αs) h = ap₂ _∷_ (h α (List·Memᴰ·head refl)) (map-
 
 -- The board with these marks and cells.
 abbrev holding : Record → ℕ → List ℕ → Board
-holding r t cells = record { rec = withTaken r t; cells = cells }
+holding r t cells = boardWith (withTaken r t) cells
 
 -- A board that has heard all others.
 module _ (r : Record) (g : Good r) (undecided : r .decided ≡ false) (cells : List ℕ) (room : cellCount (r .plan .n) ≤ length cells) where
@@ -251,7 +251,7 @@ module _ (r : Record) (g : Good r) (undecided : r .decided ≡ false) (cells : L
       ap₂ (holding r) (marks-same r msg msg′ (r .plan .n) h) (cells-same r msg msg′ cells (r .plan .n) h)
 
   -- A board that is told nothing keeps its cells, and marks no board.
-  pub heard-none : (msg : ℕ → Option (List ℕ)) → ((q : ℕ) → q < r .plan .n → msg q ≡ none) → heardAll msg ≡ record { rec = withTaken r 0; cells = cells }
+  pub heard-none : (msg : ℕ → Option (List ℕ)) → ((q : ℕ) → q < r .plan .n → msg q ≡ none) → heardAll msg ≡ boardWith (withTaken r 0) cells
   unfolding accepts isGiven
   heard-none msg h =
       let a : (q : ℕ) → q < r .plan .n → accepts r msg q ≡ false = λ q l. rw (h q l) (and-false (due (r .plan) q (r .board) (r .round))) in
@@ -271,9 +271,9 @@ module _ (r : Record) (g : Good r) (undecided : r .decided ≡ false) (cells : L
       (λ w. absurd (omega (arith, node-length p i (k .0 - 1) α here, node-length p i (k .0) α w, g .position .round-low))))
 
   -- What a board sends in a round does not depend on what it hears in it, whether from some boards or from all.
-  pub part-frame : (msg : ℕ → Option (List ℕ)) (j : ℕ) → j ≤ r .plan .n → frameOf (heard r g undecided msg cells room j) ≡ frameOf (record { rec = r; cells = cells })
+  pub part-frame : (msg : ℕ → Option (List ℕ)) (j : ℕ) → j ≤ r .plan .n → frameOf (heard r g undecided msg cells room j) ≡ frameOf (boardWith r cells)
   unfolding frameOf frame read
   part-frame msg j h = map-same _ _ (sent (r .plan) (r .board) (r .board) (r .round)) (λ α m. ap (value (r .plan)) (sent-kept msg j α h m))
 
-  pub heard-frame : (msg : ℕ → Option (List ℕ)) → frameOf (heardAll msg) ≡ frameOf (record { rec = r; cells = cells })
+  pub heard-frame : (msg : ℕ → Option (List ℕ)) → frameOf (heardAll msg) ≡ frameOf (boardWith r cells)
   heard-frame msg = part-frame msg (r .plan .n) (omega arith)

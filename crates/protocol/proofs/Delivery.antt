@@ -7,7 +7,7 @@ use mathlib.Core.Bool.{true, false, not, _&&_}
 use mathlib.Core.List.{List, [], _∷_, map, List·Memᴰ, List·Memᴰ·not-nil}
 use mathlib.Core.Option.{some}
 use native.Mathlib.Omega.{arith}
-use lib.Dec.{eqb, leb, ltb}
+use lib.Dec.{eqb, ltb}
 use lib.ListN.{length, getD}
 use lib.Pow.{pow-pos}
 use lib.Bits.{bitAnd, and-le-r}
@@ -19,10 +19,11 @@ use Rattle.sets.proofs.Search.{any-false}
 use Rattle.sets.proofs.Member.{within-boards}
 use Rattle.sets.proofs.Tolerated.{tolerated-listed}
 use Rattle.plan.specs.declared.plan.Plan.{Plan}
-use Rattle.plan.specs.declared.schedule.Round.{Round}
-use Rattle.plan.specs.Schedule.{listed, steps, stepRound}
+use Rattle.plan.specs.Listed.{listed}
 use Rattle.plan.specs.Calls.{judged}
-use Rattle.plan.specs.Cover.{strays}
+use Rattle.schedule.specs.declared.rounds.Round.{Round}
+use Rattle.schedule.specs.Schedule.{steps, stepRun, stepRound}
+use Rattle.admission.specs.Cover.{strays}
 use Rattle.tree.specs.Labels.{Label, occurs}
 use Rattle.theory.specs.Tree as T
 use Rattle.plan.specs.Values.{value}
@@ -32,9 +33,6 @@ use Rattle.protocol.specs.Calls.{frameOf}
 use Rattle.protocol.specs.Session.{Adversary, Setting, hears, at}
 use Rattle.protocol.specs.Lists.{keeper, Sound}
 use Rattle.protocol.specs.declared.records.Record.{Record}
-use Rattle.plan.specs.Calls.{andThen}
-use Rattle.protocol.specs.Calls.{dealing}
-use borrow.Author.Tests.{lt-leb}
 use Rattle.protocol.proofs.Nodes.{sent-same, sent-has, inner-inv, node-label}
 use Rattle.protocol.proofs.Fill.{IsLabel}
 use Rattle.protocol.proofs.Local.{detect-outside}
@@ -42,7 +40,7 @@ use Rattle.protocol.proofs.Judgement.{plan-facts, Good, good-dealer}
 use Rattle.protocol.proofs.Bounds.{read-small}
 use Rattle.protocol.proofs.Reached.{other-level}
 use Rattle.protocol.proofs.Instance.{inst, inst-good}
-use Rattle.protocol.proofs.Gathering.{listOf}
+use Rattle.protocol.proofs.Listing.{listOf}
 use Rattle.protocol.proofs.Hearing.{filled, filled-outside, delivered, copied}
 use Rattle.protocol.proofs.Synchronous.{told, keeper-facts, Standing, standing, canon}
 
@@ -92,11 +90,8 @@ module _ (s : Setting) (a : Adversary) (sound : Sound s) where
 
   -- A healthy dealer's value is heard in round 1.
   pub told-word : (j i : ℕ) → member (plan .dealer) F ≡ false → told s a i j (plan .dealer) ≡ some (s .word ∷ [])
-  unfolding hears dealing andThen
-  told-word j i f =
-      let e : judged plan .number ≡ 0 = sound .accepted in
-      let w : leb (plan .span) (s .word) ≡ false = lt-leb (plan .span) (s .word) (sound .word-below f) in
-      rw (f, eq-eqb (plan .dealer) (plan .dealer) refl, eq-eqb (judged plan .number) 0 e, w)
+  unfolding hears
+  told-word j i f = rw (f, eq-eqb (plan .dealer) (plan .dealer) refl)
 
   -- A node's child by a board that is not on it is due from that board.
   pub is-due : (q i e : ℕ) (k : Round) (α : Label) → q < plan .n → i < plan .n → q ≢ i → i ≢ plan .dealer → k .0 ≡ suc (suc e)
@@ -133,7 +128,7 @@ module _ (s : Setting) (a : Adversary) (sound : Sound s) where
 
     -- The list and the cells after rule FD1.
     abbrev pub scanned : Scan
-    scanned = detectAll1 plan i (inner plan i (stepRound plan (suc j) .0 - 1)) (record { detected = at s a j i .rec .detected; cells = stored-cells })
+    scanned = detectAll1 plan i (stepRun plan (suc j)) (stepRound plan (suc j)) (inner plan i (stepRound plan (suc j) .0 - 1)) (record { detected = at s a j i .rec .detected; cells = stored-cells })
 
     -- What board i has of a healthy board q, or of itself, is that board's cell.
     pub stored-healthy : (q e : ℕ) (α : Label) → keeper s q ≡ true → member q (at s a j i .rec .detected) ≡ false → stepRound plan (suc j) .0 ≡ suc (suc e)
@@ -164,6 +159,6 @@ module _ (s : Setting) (a : Adversary) (sound : Sound s) where
     scanned-other b γ w ne =
         let out : List·Memᴰ γ (nodes plan i (stepRound plan (suc j) .0)) → ⊥ = λ y. ne (other-level plan (good-dealer rec rec-good) i b (stepRound plan (suc j) .0) γ w y) in
         ap (value plan)
-        (detect-outside plan (good-dealer rec rec-good) i (stepRound plan (suc j) .0) (inner plan i (stepRound plan (suc j) .0 - 1))
+        (detect-outside plan (good-dealer rec rec-good) i (stepRun plan (suc j)) (stepRound plan (suc j)) (stepRound plan (suc j) .0) (inner plan i (stepRound plan (suc j) .0 - 1))
         (record { detected = at s a j i .rec .detected; cells = stored-cells }) (λ _ y. y) (rec-good .position .round-low) b γ w out
         ∙ filled-outside rec rec-good refl (told s a i j) (at s a j i .cells) (st .room) b γ w out)

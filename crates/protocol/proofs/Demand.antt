@@ -2,34 +2,34 @@
 -- Assumes nothing.
 use Prim.Native.Nat.{ℕ, suc, _+_, _-_, _*_, _≤_, _<_}
 use mathlib.Core.Path.{_≡_, refl, sym, subst, ap, ap₂, _∙_}
-use mathlib.Core.Logic.{_≢_, _↔_}
+use mathlib.Core.Logic.{_≢_}
 use mathlib.Core.Bool.{true, false, not, _&&_, cond}
 use mathlib.Core.List.{List, [], _∷_, _++_}
 use native.Mathlib.Omega.{arith}
 use lib.Dec.{ltb}
 use lib.ListN.{getD}
 use borrow.Author.Tests.{ltb-true, ltb-false}
-use Rattle.sets.specs.Search.{any, count}
+use Rattle.sets.specs.Search.{count}
 use Rattle.sets.specs.Sets.{member, within}
 use Rattle.sets.proofs.Tests.{cases, clash, and-l, and-r, and-true, not-t, true-not, is-false}
 use Rattle.sets.proofs.Member.{within-member, member-within}
 use Rattle.sets.proofs.Search.{any-same, any-true, any-of}
 use Rattle.sets.proofs.Count.{count-same, count-mono}
 use Rattle.plan.specs.declared.plan.Plan.{Plan}
-use Rattle.plan.specs.declared.schedule.Run.{Run}
-use Rattle.plan.specs.declared.schedule.Round.{Round}
-use Rattle.plan.specs.Schedule.{depthOf, isCut, rounds, runs, steps, stepRun, stepRound}
-use Rattle.plan.specs.Schedule as S
-use Rattle.plan.specs.Outcome.{Outcome, taken, refused}
-use Rattle.plan.specs.Calls.{andThen, judged}
-use Rattle.plan.proofs.Outcomes.{both-taken, taken-first}
-use Rattle.plan.proofs.Steps.{step-has, step-of-round}
+use Rattle.schedule.specs.declared.rounds.Run.{Run}
+use Rattle.schedule.specs.declared.rounds.Round.{Round}
+use Rattle.schedule.specs.Schedule.{depthOf, isCut, rounds, runs, steps, stepRun}
+use Rattle.schedule.specs.Schedule as S
+use Rattle.refusals.specs.Outcome.{Outcome, taken, refused, andThen}
+use Rattle.plan.specs.Calls.{judged}
+use Rattle.refusals.proofs.Outcomes.{both-taken, taken-first}
+use Rattle.schedule.proofs.Steps.{step-has, step-of-round}
 use Rattle.tree.specs.Cells.{blank}
 use Rattle.protocol.specs.declared.records.Record.{Record}
 use Rattle.protocol.specs.Rounds.{Board}
 use Rattle.protocol.specs.Calls.{judgeOpen, judgeRecord, judgeBoard, judgeBeginning, closing, deciding}
 use Rattle.protocol.specs.Session.{Setting, begun, at}
-use Rattle.protocol.specs.Lists.{Call, closes, decides, caller, leaves, answers, state, after, keeper, Prefix, Stands, Taken, Sound, Fair, closings, PastLast, EndsRun, root, list, onEvery, listAfter, Agreement, Demand3}
+use Rattle.protocol.specs.Lists.{Call, closes, decides, caller, leaves, answers, state, after, keeper, Prefix, Stands, Sound, Fair, closings, PastLast, EndsRun, root, list, onEvery, listAfter, Agreement, Demand3}
 use Rattle.protocol.specs.Claims.{ended, rootAfter, listEnded}
 use Rattle.protocol.proofs.Judgement.{open-facts, open-taken, record-taken, board-taken, cells-taken, Good}
 use Rattle.protocol.proofs.Reached.{reached-begun, reached-after}

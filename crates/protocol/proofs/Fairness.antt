@@ -2,40 +2,42 @@
 -- Assumes nothing.
 use Prim.Native.Nat.{ℕ, suc, _+_, _≤_, _<_}
 use mathlib.Core.Path.{_≡_, refl, sym, subst, ap, ap₂, _∙_}
-use mathlib.Core.Logic.{_≢_, ⊎-elim}
+use mathlib.Core.Logic.{_≢_}
 use mathlib.Core.Bool.{true, false, not, _&&_, cond}
 use mathlib.Core.List.{List, [], _∷_, _++_}
 use mathlib.Core.Option.{Option, some, none, Option·getD}
 use native.Mathlib.Omega.{arith}
-use lib.Dec.{eqb, ltb}
+use lib.Dec.{eqb, ltb, leb}
 use lib.ListN.{length, getD, take, drop}
 use lib.Seq.{take-at}
-use borrow.Author.Tests.{eqb-true, eqb-false, eq-eqb, ne-eqb, lt-ltb, ltb-true, ltb-false}
+use borrow.Author.Tests.{eqb-true, eqb-false, eq-eqb, ne-eqb, lt-ltb, ltb-true, ltb-false, lt-leb}
+use Rattle.codec.specs.Codec.{encode, decode}
+use Rattle.codec.proofs.Codec.{decode-encode}
 use Rattle.sets.specs.Search.{any}
 use Rattle.sets.specs.Sets.{member}
 use Rattle.sets.proofs.Tests.{cases, clash, and-l, and-true, true-not}
 use Rattle.plan.specs.declared.plan.Plan.{Plan}
-use Rattle.plan.specs.declared.schedule.Run.{Run}
-use Rattle.plan.specs.declared.schedule.Round.{Round}
-use Rattle.plan.specs.Schedule.{rounds, steps, stepRun, stepRound}
-use Rattle.plan.specs.Schedule as S
-use Rattle.plan.specs.Outcome.{Outcome, taken, refused}
-use Rattle.plan.proofs.Outcomes.{passed, both-taken, taken-first}
-use Rattle.plan.proofs.Steps.{step-of-round}
-use Rattle.tree.specs.Places.{cellCount}
+use Rattle.schedule.specs.declared.rounds.Run.{Run}
+use Rattle.schedule.specs.declared.rounds.Round.{Round}
+use Rattle.schedule.specs.Schedule.{steps, stepRun, stepRound}
+use Rattle.schedule.specs.Schedule as S
+use Rattle.refusals.specs.Outcome.{Outcome, taken, refused, andThen}
+use Rattle.plan.specs.Calls.{judged}
+use Rattle.refusals.proofs.Outcomes.{passed, both-taken, taken-first}
+use Rattle.schedule.proofs.Steps.{step-of-round}
 use Rattle.protocol.specs.declared.records.Record.{Record}
 use Rattle.protocol.specs.Nodes.{sent, due, frame}
-use Rattle.protocol.specs.Rounds.{Board, counted, receive}
-use Rattle.protocol.specs.Calls.{isTaken, judgeOpen, judgeReceiving, receiving, frameOf, judgeSending, sending, closing, dealing}
-use Rattle.protocol.specs.Session.{Adversary, Setting, begun, hears, boardAt, session, at}
-use Rattle.protocol.specs.Lists.{Call, isClosing, receives, sends, closes, decides, caller, leaves, answers, step, state, after, keeper, Prefix, Stands, Taken, Sound, SameRound, Written, AsSent, HandedIn, HandedInAsSent, Fair, closings}
+use Rattle.protocol.specs.Rounds.{boardWith, Board, counted, receive}
+use Rattle.protocol.specs.Calls.{isTaken, judgeOpen, judgeReceiving, taking, receiving, frameOf, wireOf, judgeSending, sending, closing, dealing}
+use Rattle.protocol.specs.Session.{Adversary, Setting, begun, hears, session, at}
+use Rattle.protocol.specs.Lists.{Call, isClosing, receives, sends, closes, decides, caller, leaves, answers, step, state, after, keeper, Prefix, Stands, Taken, Sound, Written, Fair, closings}
 use Rattle.protocol.proofs.Judgement.{is-taken, taken-is, Good, Open, open-facts, open-taken}
-use Rattle.protocol.proofs.Reached.{receiving-facts, receiving-taken, receiving-refused, due-sender, closing-refused}
+use Rattle.protocol.proofs.Reached.{receiving-facts, taking-taken, taking-refused, closing-refused}
 use Rattle.protocol.specs.Records.{withTaken}
-use Rattle.protocol.proofs.Hearing.{hear, marks, heardCells, accepts, content, isGiven, heard-open, hear-shape}
+use Rattle.protocol.proofs.Hearing.{marks, heardCells, accepts, content, isGiven, heard-open, hear-shape}
 use Rattle.protocol.proofs.Synchronous.{canon, Standing, standing, keeper-facts, at-start, at-next, told}
 use Rattle.protocol.proofs.Session.{synchronous}
-use Rattle.protocol.proofs.Prefixes.{state-next, step-own, step-other, takes, takes-other, takes-refused, ends, ends-not, ends-untaken, closings-same, closings-taken, closings-mono, prefix-refl, prefix-trans, stands-prefix, along}
+use Rattle.protocol.proofs.Prefixes.{state-next, step-own, step-other, takes-other, takes-refused, ends, ends-not, ends-untaken, closings-same, closings-taken, closings-mono, prefix-refl, prefix-trans, stands-prefix, along}
 use Rattle.protocol.proofs.Inbox.{took, isFrom, enters-not, enters-from, enters-untaken, took-skip, took-at, took-here, took-closed, took-new}
 use Rattle.protocol.proofs.AnyOrder.{update, update-here, update-other, heard-more, heard-taken, heard-same, heard-none, heard-frame}
 
@@ -44,11 +46,11 @@ pub sending-open : (b : Board) (out : List ℕ) (k : ℕ) → sending b out .ans
 unfolding sending judgeSending
 sending-open b out k e = open-facts b (both-taken (judgeOpen b) _ (ap (λ o. o .number) e) .0)
 
-pub sending-gives : (b : Board) (out : List ℕ) (k : ℕ) → sending b out .answer ≡ taken (k ∷ []) → take k (sending b out .out) ≡ frameOf b
+pub sending-gives : (b : Board) (out : List ℕ) (k : ℕ) → sending b out .answer ≡ taken (k ∷ []) → take k (sending b out .out) ≡ wireOf b
 unfolding sending judgeSending isTaken
 sending-gives b out k e =
     let r = b .rec in
-    let f = frameOf b in
+    let f = wireOf b in
     let some-due = any (λ i. due (r .plan) (r .board) i (r .round)) (r .plan .n) in
     let (e1, e2) = both-taken (judgeOpen b) _ (ap (λ o. o .number) e) in
     let on : some-due ≡ true = cases some-due (λ x. x) (λ x. absurd (let z : 16 ≡ 0 = rw x at e2 in let y : ⊥ = omega arith in y)) in
@@ -94,8 +96,8 @@ module _ (s : Setting) (calls : List Call) (sound : Sound s) (fair : Fair s call
     rec-good : Good (recAt j i)
     rec-good = subst Good (st .shape) (st .good)
 
-    pub base-is : base j i ≡ record { rec = recAt j i; cells = base j i .cells }
-    base-is = ap (λ r. record { rec = r; cells = base j i .cells }) (st .shape)
+    pub base-is : base j i ≡ boardWith (recAt j i) (base j i .cells)
+    base-is = ap (λ r. boardWith r (base j i .cells)) (st .shape)
 
     pub hearing-open : (msg : ℕ → Option (List ℕ)) → Open (hearing j i msg)
     hearing-open msg = heard-open (recAt j i) rec-good refl msg (base j i .cells) (st .room) (plan .n) (omega arith)
@@ -159,10 +161,24 @@ module _ (s : Setting) (calls : List Call) (sound : Sound s) (fair : Fair s call
   unfolding keeper
   keeper-is q l f ne = and-true (ltb q (plan .n)) _ (lt-ltb q (plan .n) l) (and-true (not (member q (s .faulty))) _ (true-not _ f) (true-not _ (ne-eqb q (plan .dealer) ne)))
 
+  wire-read : (b : Board) → decode (wireOf b) ≡ frameOf b
+  unfolding wireOf
+  wire-read b = decode-encode (frameOf b)
+
+  -- The dealer's frame holds its value.
+  dealt-read : member (plan .dealer) (s .faulty) ≡ false → decode (dealing plan (s .word) .values) ≡ s .word ∷ []
+  unfolding dealing
+  dealt-read f =
+      let word : leb (plan .span) (s .word) ≡ false = lt-leb (plan .span) (s .word) (sound .word-below f) in
+      let judgement = cond (leb (plan .span) (s .word)) (refused 18) (taken (encode (s .word ∷ []))) in
+      let deals : andThen (judged plan) judgement ≡ judgement = taken-first (judged plan) judgement (sound .accepted) in
+      let accepted : judgement ≡ taken (encode (s .word ∷ [])) = rw word refl in
+      ap (λ (o : Outcome). decode (o .values)) (deals ∙ accepted) ∙ decode-encode (s .word ∷ [])
+
   -- What a healthy board wrote is what it sends in the session.
   written-is : (now : List Call) (i q : ℕ) (f : List ℕ) (j : ℕ) → keeper s q ≡ true → j < steps plan
       → state s now i .rec .run ≡ stepRun plan (suc j) → state s now i .rec .round ≡ stepRound plan (suc j)
-      → (w : Written s now i q f) → Where (w .earlier) q → f ≡ frameOf (base j q)
+      → (w : Written s now i q f) → Where (w .earlier) q → decode f ≡ frameOf (base j q)
   unfolding answers
   written-is now i q f j kq l run round w at =
       let e = w .earlier in
@@ -171,7 +187,7 @@ module _ (s : Setting) (calls : List Call) (sound : Sound s) (fair : Fair s call
       cases (ltb c (steps plan))
       (λ x. let lc = ltb-true c (steps plan) x in
       let same : c ≡ j = same-step c j lc l (sym (run-at e q at c refl lc) ∙ w .same .run ∙ run) (sym (round-at e q at c refl lc) ∙ w .same .round ∙ round) in
-      w .gave ∙ sending-gives b (w .out) (w .size) (w .wrote) ∙ ap frameOf (at .here j same l) ∙ hearing-frame j q kq l (λ x. took (begun s) q j x e))
+      ap decode (w .gave ∙ sending-gives b (w .out) (w .size) (w .wrote)) ∙ wire-read b ∙ ap frameOf (at .here j same l) ∙ hearing-frame j q kq l (λ x. took (begun s) q j x e))
       (λ x. let z : c ≡ steps plan = omega (arith, at .most, ltb-false c (steps plan) x) in
       absurd (clash (ap (λ (y : Board). y .rec .decided) (at .done z) ∙ decided-end q kq) (sending-open b (w .out) (w .size) (w .wrote) .undecided)))
 
@@ -182,7 +198,7 @@ module _ (s : Setting) (calls : List Call) (sound : Sound s) (fair : Fair s call
       let (_, f, ne) = keeper-facts s adversary sound q kq in
       rw (f, ne-eqb q (plan .dealer) ne) refl
 
-  told-dealer : (i q j : ℕ) → member q (s .faulty) ≡ false → q ≡ plan .dealer → told s adversary i j q ≡ some (dealing plan (s .word) .values)
+  told-dealer : (i q j : ℕ) → member q (s .faulty) ≡ false → q ≡ plan .dealer → told s adversary i j q ≡ some (s .word ∷ [])
   unfolding hears
   told-dealer i q j f e = rw (f, eq-eqb q (plan .dealer) e) refl
 
@@ -199,7 +215,7 @@ module _ (s : Setting) (calls : List Call) (sound : Sound s) (fair : Fair s call
 
     handed : (q : ℕ) → q < plan .n → member q (s .faulty) ≡ false → due plan q i (stepRound plan (suc j)) ≡ true
         → took (begun s) i j q before ≡ told s adversary i j q
-    unfolding answers caller state receiving
+    unfolding answers caller state receiving taking
     handed q lq fq d =
         let brought = fair .heard i before stands ok q fq (subst (λ k. due plan q i k ≡ true) (sym (round-at before i now j e l)) d) in
         let h = brought .handed in
@@ -212,9 +228,11 @@ module _ (s : Setting) (calls : List Call) (sound : Sound s) (fair : Fair s call
         let same : c ≡ j = same-step c j lc l (sym (run-at then i w c refl lc) ∙ h .same .run ∙ run-at before i now j e l)
         (sym (round-at then i w c refl lc) ∙ h .same .round ∙ round-at before i now j e l) in
         let (_, _, none-yet) = hearing-taken j i ki l (λ x. took (begun s) i j x then) q (ap (λ b. judgeReceiving b q .number) (sym (w .here j same l)) ∙ h .taken) in
-        let got : took (begun s) i j q before ≡ some f = took-at (begun s) i j q f then before (h .stands) (h .taken) same none-yet in
+        let got : took (begun s) i j q before ≡ some (decode f) = took-at (begun s) i j q f then before (h .stands) (h .taken) same none-yet in
         cases (eqb q (plan .dealer))
-        (λ x. let z = eqb-true q (plan .dealer) x in got ∙ ap some (brought .as-sent .dealt z) ∙ sym (told-dealer i q j fq z))
+        (λ x. let z = eqb-true q (plan .dealer) x in
+        let word = dealt-read (subst (λ y. member y (s .faulty) ≡ false) z fq) in
+        got ∙ ap some (ap decode (brought .as-sent .dealt z) ∙ word) ∙ sym (told-dealer i q j fq z))
         (λ x. let ne = eqb-false q (plan .dealer) x in
         let kq = keeper-is q lq fq ne in
         let v = brought .as-sent .written ne in
@@ -273,7 +291,7 @@ module _ (s : Setting) (calls : List Call) (sound : Sound s) (fair : Fair s call
 
   -- A handing in.
   received : (before : List Call) (k q : ℕ) (f : List ℕ) (i : ℕ) → keeper s i ≡ true → Where before i → i ≡ k → Where (before ++ (receives k q f ∷ [])) i
-  unfolding leaves answers caller isClosing receiving after state
+  unfolding leaves answers caller isClosing receiving taking after state
   received before k q f i ki w e =
       let b = state s before i in
       let c = receives k q f in
@@ -288,23 +306,23 @@ module _ (s : Setting) (calls : List Call) (sound : Sound s) (fair : Fair s call
             let at = w .here j (sym count ∙ z) l in
             let msg : ℕ → Option (List ℕ) = λ y. took (begun s) i j y before in
             let ok′ = ap (λ y. judgeReceiving y q .number) (sym at) ∙ ok in
-            state-next s before c i ∙ step-own (state s before) c i e ∙ receiving-taken b q f ok ∙ ap (receive q f) at
-            ∙ hearing-more j i ki l msg q f ok′
-            ∙ hearing-same j i ki l (update msg q f) (λ y. took (begun s) i j y (before ++ (c ∷ []))) (λ y _ _. entered j (sym count ∙ z) ok (hearing-taken j i ki l msg q ok′ .2) y);
+            state-next s before c i ∙ step-own (state s before) c i e ∙ taking-taken b q (decode f) ok ∙ ap (receive q (decode f)) at
+            ∙ hearing-more j i ki l msg q (decode f) ok′
+            ∙ hearing-same j i ki l (update msg q (decode f)) (λ y. took (begun s) i j y (before ++ (c ∷ []))) (λ y _ _. entered j (sym count ∙ z) ok (hearing-taken j i ki l msg q ok′ .2) y);
         done = λ z. absurd (let y : closings (begun s) i before ≡ steps plan = sym count ∙ z in let n : ⊥ = omega arith in n);
       })
-      (λ x. turned-down before c i ki w e (receiving-refused b q f x) (λ z. clash (taken-is (judgeReceiving b q) z) x))
+      (λ x. turned-down before c i ki w e (taking-refused b q (decode f) x) (λ z. clash (taken-is (judgeReceiving b q) z) x))
     where
       entered : (j : ℕ) → closings (begun s) i before ≡ j → judgeReceiving (state s before i) q .number ≡ 0 → took (begun s) i j q before ≡ none → (y : ℕ)
-          → update (λ x. took (begun s) i j x before) q f y ≡ took (begun s) i j y (before ++ (receives k q f ∷ []))
+          → update (λ x. took (begun s) i j x before) q (decode f) y ≡ took (begun s) i j y (before ++ (receives k q f ∷ []))
       entered j z ok free y =
           let msg : ℕ → Option (List ℕ) = λ x. took (begun s) i j x before in
           cases (eqb y q)
           (λ x. let z′ = eqb-true y q x in
-          ap (update msg q f) z′ ∙ update-here msg q f ∙ sym (took-here (begun s) i j q f before ok z free)
+          ap (update msg q (decode f)) z′ ∙ update-here msg q (decode f) ∙ sym (took-here (begun s) i j q f before ok z free)
           ∙ ap₂ (λ m u. took (begun s) i j u (before ++ (receives m q f ∷ []))) e (sym z′))
           (λ x. let ne = eqb-false y q x in
-          update-other msg q f y ne
+          update-other msg q (decode f) y ne
           ∙ sym (took-skip (begun s) i j y before (receives k q f) z (enters-from (after (begun s) before) i y k q f (λ u. ne (sym u)))
           (ends-not (after (begun s) before) i (receives k q f) refl)))
 

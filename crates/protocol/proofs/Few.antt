@@ -11,15 +11,17 @@ use lib.Dec.{eqb, leb}
 use lib.ListN.{length, take, length-append, length-map}
 use lib.Seq.{take-all, length-take-le}
 use borrow.Author.Tests.{eq-eqb, ne-eqb, leb-true, leb-false, le-ltb}
+use Rattle.codec.specs.Codec.{width, decode}
+use Rattle.codec.proofs.Codec.{length-encode}
 use Rattle.sets.specs.Search.{any}
 use Rattle.sets.specs.Sets.{member}
 use Rattle.sets.proofs.Tests.{cases, or-right}
 use Rattle.sets.proofs.Search.{any-of}
 use Rattle.plan.specs.declared.plan.Plan.{Plan}
-use Rattle.plan.specs.declared.schedule.Round.{Round}
-use Rattle.plan.specs.Outcome.{taken}
+use Rattle.schedule.specs.declared.rounds.Round.{Round}
+use Rattle.refusals.specs.Outcome.{taken}
 use Rattle.plan.specs.Calls.{judged}
-use Rattle.plan.proofs.Outcomes.{taken-first}
+use Rattle.refusals.proofs.Outcomes.{taken-first}
 use Rattle.tree.specs.Labels.{Label, occurs, childrenFrom, children, childrenOf, labels}
 use Rattle.tree.specs.Places.{levelSize, ordinal}
 use Rattle.tree.proofs.Below.{all, all-at}
@@ -31,10 +33,10 @@ use Rattle.protocol.specs.Limits.{frameMost, frameRoom}
 use Rattle.protocol.specs.declared.records.Record.{Record}
 use Rattle.protocol.specs.Nodes.{filter, internal, nodes, inner, carried, sent, due, frame}
 use Rattle.protocol.specs.Rounds.{Board, counted, receive}
-use Rattle.protocol.specs.Calls.{isTaken, judgeOpen, judgeReceiving, receiving, frameOf, judgeSending, sending}
+use Rattle.protocol.specs.Calls.{isTaken, judgeOpen, judgeReceiving, taking, receiving, frameOf, wireOf, judgeSending, sending}
 use Rattle.protocol.proofs.Nodes.{inner-inv, node-label}
 use Rattle.protocol.proofs.Judgement.{is-taken, plan-facts, Open, open-taken}
-use Rattle.protocol.proofs.Reached.{receiving-facts, receiving-refused, due-sender}
+use Rattle.protocol.proofs.Reached.{receiving-facts, taking-refused, due-sender}
 
 -- Filters.
 pub filter-length : (f : Label → Bool) (αs : List Label) → length (filter f αs) ≤ length αs
@@ -167,7 +169,7 @@ counted-few r q αs f l =
     rw (ne-eqb (length (take frameRoom f)) (length αs) (omega arith), ne-eqb (length f) (length αs) (omega arith)))
 
 pub overlong : (b : Board) (q : ℕ) (f : List ℕ) → receiving b q (take frameRoom f) ≡ receiving b q f
-unfolding receiving receive
+unfolding receiving taking receive decode
 overlong b q f =
     let r = b .rec in
     let αs = sent (r .plan) q (r .board) (r .round) in
@@ -179,14 +181,15 @@ overlong b q f =
 
 -- A board that is open and has a frame due to some board writes it where there is room for 121 values.
 pub sends : (b : Board) (out : List ℕ) → Open b → frameRoom ≤ length out → any (λ i. due (b .rec .plan) (b .rec .board) i (b .rec .round)) (b .rec .plan .n) ≡ true
-    → sending b out .answer ≡ taken (length (frameOf b) ∷ [])
+    → sending b out .answer ≡ taken (length (wireOf b) ∷ [])
 unfolding sending judgeSending
 sends b out o room d =
     let r = b .rec in
     let size : length (frameOf b) ≡ length (sent (r .plan) (r .board) (r .board) (r .round)) =
     unfold frameOf frame in length-map (sent (r .plan) (r .board) (r .board) (r .round)) _ in
     let most = few (r .plan) (o .good .plan-good) (r .board) (r .board) (r .round) (o .good .below) in
-    taken-first (judgeOpen b) _ (ap (λ x. x .number) (open-taken b o)) ∙ rw (d, le-ltb (length out) (length (frameOf b)) (omega arith)) refl
+    let bytes : length (wireOf b) ≡ width * length (frameOf b) = unfold wireOf in length-encode (frameOf b) in
+    taken-first (judgeOpen b) _ (ap (λ x. x .number) (open-taken b o)) ∙ rw (d, le-ltb (length out) (length (wireOf b)) (omega arith)) refl
 
 -- Where it writes none, nothing that is handed in under its number is taken in that round.
 pub unsent : (b c : Board) (out f : List ℕ) → Open b → frameRoom ≤ length out → c .rec .plan ≡ b .rec .plan → c .rec .round ≡ b .rec .round
@@ -199,4 +202,4 @@ unsent b c out f o room ep er silent =
     subst (λ k. due (b .rec .plan) q (c .rec .board) k ≡ true) er (subst (λ p. due p q (c .rec .board) (c .rec .round) ≡ true) ep d) in
     let below : c .rec .board < b .rec .plan .n = subst (λ (p : Plan). c .rec .board < p .n) ep (oc .good .below) in
     absurd (silent (ap (λ x. x .number) (sends b out o room (any-of (λ i. due (b .rec .plan) q i (b .rec .round)) (b .rec .plan .n) (c .rec .board) below d′)))))
-    (λ e. receiving-refused c q f e)
+    (λ e. unfold receiving in taking-refused c q (decode f) e)

@@ -10,15 +10,16 @@ use mathlib.Core.Option.{Option, some}
 use native.Mathlib.Omega.{arith}
 use lib.Dec.{eqb}
 use lib.ListN.{length}
-use borrow.Author.Tests.{eqb-true, eq-eqb}
+use borrow.Author.Tests.{eqb-true}
 use Rattle.sets.specs.Sets.{member, setOf}
 use Rattle.sets.specs.Structure.{tolerated}
 use Rattle.sets.specs.Only.{same}
-use Rattle.sets.proofs.Tests.{cases, clash, is-false, is-true, and-l, and-r, or-true, or-r, or-left, or-right, not-t}
+use Rattle.sets.proofs.Tests.{cases, clash, is-false, is-true, and-l, and-r, or-true, or-r, or-left, not-t}
 use Rattle.sets.proofs.Search.{any-true}
-use Rattle.sets.proofs.Member.{member-insert}
 use Rattle.plan.specs.declared.plan.Plan.{Plan}
-use Rattle.plan.specs.Schedule.{listed}
+use Rattle.plan.specs.Listed.{listed}
+use Rattle.schedule.specs.declared.rounds.Run.{Run}
+use Rattle.schedule.specs.declared.rounds.Round.{Round}
 use Rattle.tree.specs.Labels.{Label, occurs, last}
 use Rattle.tree.specs.Places.{cellCount}
 use Rattle.tree.specs.Cells.{cellAt, store}
@@ -28,27 +29,14 @@ use Rattle.theory.specs.Runs as R
 use Rattle.theory.proofs.Soundness.{spared}
 use Rattle.plan.specs.Values.{default, value}
 use Rattle.protocol.specs.Nodes.{read, nodes, inner}
-use Rattle.protocol.specs.Detection.{explained, byCell, join, passes, Scan, maskBoard, detect1, detectAll1}
+use Rattle.protocol.specs.declared.records.Rule.the-variants as Rule
+use Rattle.protocol.specs.Listing.{join}
+use Rattle.protocol.specs.Detection.{explained, byCell, passes, Scan, maskBoard, detect1, detectAll1}
 use Rattle.protocol.proofs.Nodes.{no-node, inner-inv, node-label, node-has}
 use Rattle.protocol.proofs.Fill.{IsLabel, label-dec, value-default}
 use Rattle.protocol.proofs.Local.{detect1-length}
+use Rattle.protocol.proofs.Listing.{listOf, join-has, join-keeps, join-inv}
 use Rattle.protocol.proofs.Instance.{tol, tol-mono, inst}
-
--- The list as a test.
-abbrev pub listOf : ℕ → T.Boards
-listOf detected = λ r. member r detected
-
-pub join-has : (r s : ℕ) → member r (join r s) ≡ true
-unfolding join
-join-has r s = member-insert r r s ∙ or-left (eqb r r) (member r s) (eq-eqb r r refl)
-
-pub join-keeps : (r s i : ℕ) → member i s ≡ true → member i (join r s) ≡ true
-unfolding join
-join-keeps r s i h = member-insert i r s ∙ or-right (eqb i r) (member i s) h
-
-pub join-inv : (r s i : ℕ) → member i (join r s) ≡ true → (i ≡ r) ⊎ (member i s ≡ true)
-unfolding join
-join-inv r s i h = ⊎-elim (λ e. inl (eqb-true i r e)) inr (or-true (eqb i r) (member i s) (sym (member-insert i r s) ∙ h))
 
 -- The definitions' test is the theory's.
 pub explained-inst : (p : Plan) (α : Label) (f : ℕ → Option ℕ) (s : ℕ) → explained p α f s ≡ R.explained (inst p) α f (listOf s)
@@ -75,25 +63,32 @@ module _ (p : Plan) (l : p .dealer < p .n) (i : ℕ) where
       (mask-cell r a γs cells′ b δ rest m (rw (store-length (p .n) cells γ (default p)) room))))
       (λ e. rw e (mask-cell r a γs cells b δ rest m room))
 
+  -- A child of a node is a label of the next level.
+  child-label : (k : ℕ) (α : Label) → List·Memᴰ α (inner p i k) → (c : ℕ) → c < p .n → occurs c α ≡ false → IsLabel p l (suc k) (c ∷ α)
+  child-label zero α w c lc a = absurd (no-node p i α (inner-inv p i 0 α w .0))
+  child-label (suc j) α w c lc a = node-label p i (suc (suc j)) (c ∷ α) (node-has p i j α c w lc a)
+
+-- The rule of board i, in a run and a round.
+module _ (p : Plan) (l : p .dealer < p .n) (i : ℕ) (run : Run) (round : Round) where
   -- One node.
   module _ (k : ℕ) (α : Label) (w : List·Memᴰ α (inner p i k)) where
-    pub detect1-kept : (s : Scan) → passes p α (byCell p (s .cells) α) (s .detected) ≡ true → detect1 p i α s ≡ s
+    pub detect1-kept : (s : Scan) → passes p α (byCell p (s .cells) α) (s .detected) ≡ true → detect1 p i run round α s ≡ s
     unfolding detect1
     detect1-kept s e = rw e
 
     pub detect1-joined : (s : Scan) → passes p α (byCell p (s .cells) α) (s .detected) ≡ false
-        → detect1 p i α s ≡ record { detected = join (last α) (s .detected); cells = maskBoard p (last α) (nodes p i (suc (length α))) (s .cells) }
+        → detect1 p i run round α s ≡ record { detected = join (last α) run round Rule.G (length α) (s .detected); cells = maskBoard p (last α) (nodes p i (suc (length α))) (s .cells) }
     unfolding detect1
     detect1-joined s e = rw e
 
-    pub detect1-grow : (s : Scan) (r : ℕ) → member r (s .detected) ≡ true → member r (detect1 p i α s .detected) ≡ true
+    pub detect1-grow : (s : Scan) (r : ℕ) → member r (s .detected) ≡ true → member r (detect1 p i run round α s .detected) ≡ true
     detect1-grow s r h =
         cases (passes p α (byCell p (s .cells) α) (s .detected))
         (λ e. rw (detect1-kept s e) h)
-        (λ e. rw (detect1-joined s e) (join-keeps (last α) (s .detected) r h))
+        (λ e. rw (detect1-joined s e) (join-keeps run round Rule.G (length α) (last α) (s .detected) r h))
 
     pub detect1-cell : (s : Scan) (b : ℕ) (δ : Label) → IsLabel p l b δ → cellCount (p .n) ≤ length (s .cells)
-        → (read p (detect1 p i α s .cells) δ ≡ read p (s .cells) δ) ⊎ ((read p (detect1 p i α s .cells) δ ≡ default p) × (member (last δ) (detect1 p i α s .detected) ≡ true))
+        → (read p (detect1 p i run round α s .cells) δ ≡ read p (s .cells) δ) ⊎ ((read p (detect1 p i run round α s .cells) δ ≡ default p) × (member (last δ) (detect1 p i run round α s .detected) ≡ true))
     unfolding read
     detect1-cell s b δ m room =
         cases (passes p α (byCell p (s .cells) α) (s .detected))
@@ -101,36 +96,36 @@ module _ (p : Plan) (l : p .dealer < p .n) (i : ℕ) where
         (λ e. rw (detect1-joined s e)
         (⊎-elim
         (λ q. inl (ap (value p) q))
-        (λ q. inr (ap (value p) (q .0) ∙ value-default p, rw (q .1) (join-has (last α) (s .detected))))
-        (mask-cell (last α) (suc (length α)) (nodes p i (suc (length α))) (s .cells) b δ (λ γ x. node-label p i (suc (length α)) γ x) m room)))
+        (λ q. inr (ap (value p) (q .0) ∙ value-default p, rw (q .1) (join-has run round Rule.G (length α) (last α) (s .detected))))
+        (mask-cell p l i (last α) (suc (length α)) (nodes p i (suc (length α))) (s .cells) b δ (λ γ x. node-label p i (suc (length α)) γ x) m room)))
 
   abbrev Level : ℕ → List Label → Type 0
   Level k αs = (α : Label) → List·Memᴰ α αs → List·Memᴰ α (inner p i k)
 
   module _ (k : ℕ) where
-    pub scan-grow : (αs : List Label) (s : Scan) (r : ℕ) → Level k αs → member r (s .detected) ≡ true → member r (detectAll1 p i αs s .detected) ≡ true
+    pub scan-grow : (αs : List Label) (s : Scan) (r : ℕ) → Level k αs → member r (s .detected) ≡ true → member r (detectAll1 p i run round αs s .detected) ≡ true
     unfolding detectAll1
     scan-grow [] s r h t = t
     scan-grow (α ∷ αs) s r h t =
-        scan-grow αs (detect1 p i α s) r (λ β w. h β (List·Memᴰ·tail w)) (detect1-grow k α (h α (List·Memᴰ·head refl)) s r t)
+        scan-grow αs (detect1 p i run round α s) r (λ β w. h β (List·Memᴰ·tail w)) (detect1-grow k α (h α (List·Memᴰ·head refl)) s r t)
 
-    same-length : (α : Label) → List·Memᴰ α (inner p i k) → (s : Scan) → length (detect1 p i α s .cells) ≡ length (s .cells)
+    same-length : (α : Label) → List·Memᴰ α (inner p i k) → (s : Scan) → length (detect1 p i run round α s .cells) ≡ length (s .cells)
     same-length α w s =
         let z : suc k - 1 ≡ k = omega arith in
-        detect1-length p l i (suc k) α (subst (λ x. List·Memᴰ α (inner p i x)) (sym z) w) (omega arith) s
+        detect1-length p l i run round (suc k) α (subst (λ x. List·Memᴰ α (inner p i x)) (sym z) w) (omega arith) s
 
     -- What a scan does to a cell: nothing, or it is masked.
     abbrev pub Kept : Scan → Scan → Label → Type 0
     Kept s e δ = (read p (e .cells) δ ≡ read p (s .cells) δ) ⊎ ((read p (e .cells) δ ≡ default p) × (member (last δ) (e .detected) ≡ true))
 
     pub scan-cell : (αs : List Label) (s : Scan) (b : ℕ) (δ : Label) → Level k αs → IsLabel p l b δ → cellCount (p .n) ≤ length (s .cells)
-        → Kept s (detectAll1 p i αs s) δ
+        → Kept s (detectAll1 p i run round αs s) δ
     unfolding detectAll1
     scan-cell [] s b δ h m room = inl refl
     scan-cell (α ∷ αs) s b δ h m room =
         let here = h α (List·Memᴰ·head refl) in
         let rest : Level k αs = λ β w. h β (List·Memᴰ·tail w) in
-        let s′ = detect1 p i α s in
+        let s′ = detect1 p i run round α s in
         ⊎-elim
         (λ q. ⊎-elim
         (λ x. inl (q ∙ x))
@@ -139,59 +134,51 @@ module _ (p : Plan) (l : p .dealer < p .n) (i : ℕ) where
         inr
         (scan-cell αs s′ b δ rest m (rw (same-length α here s) room))
 
-    -- A child of a node is a label of the next level.
-    child-label : (α : Label) → List·Memᴰ α (inner p i k) → (c : ℕ) → c < p .n → occurs c α ≡ false → IsLabel p l (suc k) (c ∷ α)
-    child-label α w c lc a = go k w
-      where
-        go : (k : ℕ) → List·Memᴰ α (inner p i k) → IsLabel p l (suc k) (c ∷ α)
-        go zero w = absurd (no-node p i α (inner-inv p i 0 α w .0))
-        go (suc j) w = node-label p i (suc (suc j)) (c ∷ α) (node-has p i j α c w lc a)
-
     -- A board that is not listed in the end was spared at its node, by cells and list as they stand in the end.
     abbrev pub SparedBy : Scan → Label → Type 0
     SparedBy e α = (v : ℕ) × (v < p .span) × (tol p (λ c. not (member c (e .detected)) && T.others α (byCell p (e .cells) α) v c) ≡ true)
 
     spared-here : (α : Label) (αs : List Label) (s : Scan) → List·Memᴰ α (inner p i k) → Level k αs → cellCount (p .n) ≤ length (s .cells)
-        → member (last α) (detectAll1 p i αs (detect1 p i α s) .detected) ≡ false → SparedBy (detectAll1 p i αs (detect1 p i α s)) α
+        → member (last α) (detectAll1 p i run round αs (detect1 p i run round α s) .detected) ≡ false → SparedBy (detectAll1 p i run round αs (detect1 p i run round α s)) α
     unfolding passes explained byCell last tol
     spared-here α αs s w h room u =
         cases (passes p α (byCell p (s .cells) α) (s .detected))
         (λ e. let kept = detect1-kept k α w s e in
-        let u′ : member (last α) (detectAll1 p i αs s .detected) ≡ false = subst (λ x. member (last α) (detectAll1 p i αs x .detected) ≡ false) kept u in
+        let u′ : member (last α) (detectAll1 p i run round αs s .detected) ≡ false = subst (λ x. member (last α) (detectAll1 p i run round αs x .detected) ≡ false) kept u in
         let new : member (last α) (s .detected) ≡ false = is-false (member (last α) (s .detected)) (λ t. clash (scan-grow αs s (last α) h t) u′) in
         let why : explained p α (byCell p (s .cells) α) (s .detected) ≡ true =
         ⊎-elim (λ t. clash t new) (λ t. t) (or-true (member (last α) (s .detected)) (explained p α (byCell p (s .cells) α) (s .detected)) e) in
         let (v, lv, t) = any-true (λ v. tolerated (listed p) (setOf (λ c. (not (occurs c α) && not (same (byCell p (s .cells) α c) (some v))) || member c (s .detected)) (p .n))) (p .span) why in
-        subst (λ x. SparedBy (detectAll1 p i αs x) α) (sym kept) (
+        subst (λ x. SparedBy (detectAll1 p i run round αs x) α) (sym kept) (
           v,
           lv,
-          tol-mono p (λ c. not (member c (detectAll1 p i αs s .detected)) && T.others α (byCell p (detectAll1 p i αs s .cells) α) v c)
+          tol-mono p (λ c. not (member c (detectAll1 p i run round αs s .detected)) && T.others α (byCell p (detectAll1 p i run round αs s .cells) α) v c)
               (λ c. (not (occurs c α) && not (same (byCell p (s .cells) α c) (some v))) || member c (s .detected))
               (λ c lc z.
-              let e′ = detectAll1 p i αs s in
+              let e′ = detectAll1 p i run round αs s in
               let out = not-t (member c (e′ .detected)) (and-l (not (member c (e′ .detected))) (T.others α (byCell p (e′ .cells) α) v c) z) in
               let oth = and-r (not (member c (e′ .detected))) (T.others α (byCell p (e′ .cells) α) v c) z in
               let a = not-t (occurs c α) (and-l (not (occurs c α)) (not (same (byCell p (e′ .cells) α c) (some v))) oth) in
               let cell : read p (e′ .cells) (c ∷ α) ≡ read p (s .cells) (c ∷ α) =
-              ⊎-elim (λ x. x) (λ x. clash (x .1) out) (scan-cell αs s (suc k) (c ∷ α) h (child-label α w c lc a) room) in
+              ⊎-elim (λ x. x) (λ x. clash (x .1) out) (scan-cell αs s (suc k) (c ∷ α) h (child-label p l i k α w c lc a) room) in
               or-left (not (occurs c α) && not (same (byCell p (s .cells) α c) (some v))) (member c (s .detected))
               (subst (λ x. (not (occurs c α) && not (same (some x) (some v))) ≡ true) cell oth))
               t,
         ))
         (λ e. let joined = detect1-joined k α w s e in
-        clash (scan-grow αs (detect1 p i α s) (last α) h (rw joined (join-has (last α) (s .detected)))) u)
+        clash (scan-grow αs (detect1 p i run round α s) (last α) h (rw joined (join-has run round Rule.G (length α) (last α) (s .detected)))) u)
 
     pub scan-spared : (αs : List Label) (s : Scan) (α : Label) → Level k αs → List·Memᴰ α αs → cellCount (p .n) ≤ length (s .cells)
-        → member (last α) (detectAll1 p i αs s .detected) ≡ false → SparedBy (detectAll1 p i αs s) α
+        → member (last α) (detectAll1 p i run round αs s .detected) ≡ false → SparedBy (detectAll1 p i run round αs s) α
     unfolding detectAll1
     scan-spared [] s α h m room u = absurd (List·Memᴰ·not-nil m)
     scan-spared (β ∷ αs) s α h m room u =
         let here = h β (List·Memᴰ·head refl) in
         let rest : Level k αs = λ γ w. h γ (List·Memᴰ·tail w) in
         ⊎-elim
-        (λ e. subst (λ x. SparedBy (detectAll1 p i αs (detect1 p i β s)) x) (sym e)
-        (spared-here β αs s here rest room (subst (λ x. member (last x) (detectAll1 p i αs (detect1 p i β s) .detected) ≡ false) e u)))
-        (λ m′. scan-spared αs (detect1 p i β s) α rest m′ (rw (same-length β here s) room) u)
+        (λ e. subst (λ x. SparedBy (detectAll1 p i run round αs (detect1 p i run round β s)) x) (sym e)
+        (spared-here β αs s here rest room (subst (λ x. member (last x) (detectAll1 p i run round αs (detect1 p i run round β s) .detected) ≡ false) e u)))
+        (λ m′. scan-spared αs (detect1 p i run round β s) α rest m′ (rw (same-length β here s) room) u)
         (List·Memᴰ·cases-cons m)
 
     -- No healthy board is listed where the healthy children of each node of a healthy board have one value.
@@ -203,7 +190,7 @@ module _ (p : Plan) (l : p .dealer < p .n) (i : ℕ) where
       abbrev pub Sound : Scan → Type 0
       Sound s = T.Sub (p .n) (listOf (s .detected)) (listOf F)
 
-      detect1-sound : (α : Label) (s : Scan) {j : ℕ} → T.Node (inst p) i j α → List·Memᴰ α (inner p i k) → Minds s α → Sound s → Sound (detect1 p i α s)
+      detect1-sound : (α : Label) (s : Scan) {j : ℕ} → T.Node (inst p) i j α → List·Memᴰ α (inner p i k) → Minds s α → Sound s → Sound (detect1 p i run round α s)
       unfolding passes byCell
       detect1-sound α s N w mind sound q lq t =
           cases (passes p α (byCell p (s .cells) α) (s .detected))
@@ -215,15 +202,15 @@ module _ (p : Plan) (l : p .dealer < p .n) (i : ℕ) where
           ∙ spared G v (byCell p (s .cells) α) (listOf (s .detected)) N lv (λ c C a. ap some (same-value c C a)) sound)
           (or-r (member (last α) (s .detected)) (explained p α (byCell p (s .cells) α) (s .detected)) e)))
           (sound q lq)
-          (join-inv (last α) (s .detected) q (subst (λ x. member q (x .detected) ≡ true) (detect1-joined k α w s e) t)))
+          (join-inv run round Rule.G (length α) (last α) (s .detected) q (subst (λ x. member q (x .detected) ≡ true) (detect1-joined k α w s e) t)))
 
       pub scan-sound : (αs : List Label) (s : Scan) {j : ℕ} → ((α : Label) → List·Memᴰ α αs → T.Node (inst p) i j α) → Level k αs
-          → cellCount (p .n) ≤ length (s .cells) → ((α : Label) → List·Memᴰ α αs → Minds s α) → Sound s → Sound (detectAll1 p i αs s)
+          → cellCount (p .n) ≤ length (s .cells) → ((α : Label) → List·Memᴰ α αs → Minds s α) → Sound s → Sound (detectAll1 p i run round αs s)
       unfolding detectAll1 last
       scan-sound [] s N h room minds sound = sound
       scan-sound (α ∷ αs) s N h room minds sound =
           let here = h α (List·Memᴰ·head refl) in
-          let s′ = detect1 p i α s in
+          let s′ = detect1 p i run round α s in
           let sound′ : Sound s′ = detect1-sound α s (N α (List·Memᴰ·head refl)) here (minds α (List·Memᴰ·head refl)) sound in
           scan-sound αs s′ (λ β w. N β (List·Memᴰ·tail w)) (λ β w. h β (List·Memᴰ·tail w)) (rw (same-length α here s) room)
           (λ β w out. let (v, lv, u) = minds β (List·Memᴰ·tail w) out in (
@@ -232,6 +219,6 @@ module _ (p : Plan) (l : p .dealer < p .n) (i : ℕ) where
             λ c C a. ⊎-elim
                 (λ x. x ∙ u c C a)
                 (λ x. clash (sound′ c (C .below) (x .1)) (C .correct))
-                (detect1-cell k α here s (suc k) (c ∷ β) (child-label β (h β (List·Memᴰ·tail w)) c (C .below) a) room),
+                (detect1-cell k α here s (suc k) (c ∷ β) (child-label p l i k β (h β (List·Memᴰ·tail w)) c (C .below) a) room),
           ))
           sound′

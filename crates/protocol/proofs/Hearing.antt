@@ -10,15 +10,16 @@ use native.Mathlib.Omega.{arith}
 use lib.Dec.{eqb}
 use lib.ListN.{length, length-map}
 use lib.Pow.{pow-pos}
-use Rattle.protocol.proofs.Bounds.{insert-below, read-small}
+use Rattle.protocol.proofs.Listing.{insert-below}
+use Rattle.protocol.proofs.Bounds.{read-small}
 use borrow.Author.Tests.{eqb-true, eqb-false, eq-eqb, ne-eqb, lt-ltb}
 use Rattle.sets.specs.Sets.{member, insert}
 use Rattle.sets.proofs.Tests.{cases, clash, and-r, and-true, not-t, true-not}
 use Rattle.sets.proofs.Member.{member-insert, member-empty}
 use Rattle.plan.specs.declared.plan.Plan.{Plan}
-use Rattle.plan.specs.declared.schedule.Round.{Round}
-use Rattle.plan.specs.Outcome.{taken, refused}
-use Rattle.plan.proofs.Outcomes.{taken-first}
+use Rattle.schedule.specs.declared.rounds.Round.{Round}
+use Rattle.refusals.specs.Outcome.{taken, refused}
+use Rattle.refusals.proofs.Outcomes.{taken-first}
 use Rattle.tree.specs.Labels.{Label}
 use Rattle.tree.specs.Places.{cellCount}
 use Rattle.tree.specs.Cells.{cellAt}
@@ -26,14 +27,14 @@ use Rattle.protocol.specs.declared.records.Record.{Record}
 use Rattle.plan.specs.Values.{default, value}
 use Rattle.protocol.specs.Records.{withTaken}
 use Rattle.protocol.specs.Nodes.{read, nodes, sent, due, frame}
-use Rattle.protocol.specs.Rounds.{Board, fill, counted, receive, fillMissing, copyOwn}
+use Rattle.protocol.specs.Rounds.{boardWith, Board, fill, counted, receive, fillMissing, copyOwn}
 use Rattle.protocol.specs.Calls.{isTaken, judgeOpen, judgeReceiving}
 use Rattle.protocol.specs.Session.{handIn}
 use Rattle.protocol.proofs.Nodes.{sent-node, node-label}
 use Rattle.protocol.proofs.Fill.{IsLabel, fill-length, fill-other, fill-map, fill-none, value-default}
 use Rattle.protocol.proofs.Local.{SameOutside, fill-outside, missing-outside, own-outside, own-length, missing-length}
 use Rattle.protocol.proofs.Judgement.{Good, good-dealer, Open, open-taken}
-use Rattle.protocol.proofs.Reached.{receiving-taken, receiving-refused}
+use Rattle.protocol.proofs.Reached.{taking-taken, taking-refused}
 
 -- What board b hears from the boards below j.
 unfoldable pub hear : (ℕ → Option (List ℕ)) → Board → ℕ → Board
@@ -124,7 +125,7 @@ module _ (r : Record) (g : Good r) (undecided : r .decided ≡ false) (msg : ℕ
 
   -- The board when it has heard the boards below j.
   abbrev pub heard : ℕ → Board
-  heard j = record { rec = withTaken r (marks r msg j); cells = heardCells r msg cells j }
+  heard j = boardWith (withTaken r (marks r msg j)) (heardCells r msg cells j)
 
   pub heard-open : (j : ℕ) → j ≤ p .n → Open (heard j)
   heard-open j h = record { good = marked-good r g (marks r msg j) (marks-below j h); room = rw (heard-length j) room; undecided = undecided }
@@ -141,10 +142,10 @@ module _ (r : Record) (g : Good r) (undecided : r .decided ≡ false) (msg : ℕ
   one-more q none e h = rw (e, and-false (due p q (r .board) (r .round)))
   one-more q (some f) e h =
       cases (due p q (r .board) (r .round))
-      (λ d. receiving-taken (heard q) q f (ap (λ o. o .number) (judged-due q h ∙ ap (λ b. cond b (taken []) (refused 14)) d)) ∙ rw (e, d) (unfold receive in refl))
-      (λ d. receiving-refused (heard q) q f (ap isTaken (judged-due q h ∙ ap (λ b. cond b (taken []) (refused 14)) d) ∙ unfold isTaken in refl) ∙ rw (e, d))
+      (λ d. taking-taken (heard q) q f (ap (λ o. o .number) (judged-due q h ∙ ap (λ b. cond b (taken []) (refused 14)) d)) ∙ rw (e, d) (unfold receive in refl))
+      (λ d. taking-refused (heard q) q f (ap isTaken (judged-due q h ∙ ap (λ b. cond b (taken []) (refused 14)) d) ∙ unfold isTaken in refl) ∙ rw (e, d))
 
-  pub hear-shape : (b : Board) → b ≡ record { rec = withTaken r 0; cells = cells } → (j : ℕ) → j ≤ p .n → hear msg b j ≡ heard j
+  pub hear-shape : (b : Board) → b ≡ boardWith (withTaken r 0) cells → (j : ℕ) → j ≤ p .n → hear msg b j ≡ heard j
   unfolding hear marks heardCells
   hear-shape b e zero h = e
   hear-shape b e (suc q) h = ap (handIn q (msg q)) (hear-shape b e q (omega arith)) ∙ one-more q (msg q) refl h

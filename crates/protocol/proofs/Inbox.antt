@@ -9,6 +9,7 @@ use mathlib.Core.Option.{Option, some, none, Option·none-ne-some}
 use native.Mathlib.Omega.{arith}
 use lib.Dec.{eqb}
 use borrow.Author.Tests.{eq-eqb, ne-eqb}
+use Rattle.codec.specs.Codec.{decode}
 use Rattle.sets.proofs.Tests.{cases, clash, is-false}
 use Rattle.protocol.specs.Lists.{Call, receives, sends, closes, decides, caller, answers, World, step, after, Stands, isClosing, closings}
 use Rattle.protocol.proofs.Prefixes.{takes, takes-own, ends, ends-not, ends-closes}
@@ -20,8 +21,9 @@ isFrom q (sends i out) = false
 isFrom q (closes i) = false
 isFrom q (decides i) = false
 
+-- The values of the frame that a call hands in.
 unfoldable pub frameIn : Call → List ℕ
-frameIn (receives i p f) = f
+frameIn (receives i p f) = decode f
 frameIn (sends i out) = []
 frameIn (closes i) = []
 frameIn (decides i) = []
@@ -153,7 +155,7 @@ took-skip w i j q before c e out stay =
 -- The first frame from q.
 pub took-at : (w : World) (i j q : ℕ) (f : List ℕ) (earlier before : List Call) → Stands (receives i q f) earlier before
     → answers (receives i q f) (after w earlier i) .number ≡ 0 → closings w i earlier ≡ j → took w i j q earlier ≡ none
-    → took w i j q before ≡ some f
+    → took w i j q before ≡ some (decode f)
 unfolding frameIn
 took-at w i j q f earlier before h t e z =
     let w′ = after w earlier in
@@ -161,7 +163,7 @@ took-at w i j q f earlier before h t e z =
     ∙ took-enters w′ i q (receives i q f) (h .0) (enters-receives w′ i q f t)
 
 pub took-here : (w : World) (i j q : ℕ) (f : List ℕ) (before : List Call) → answers (receives i q f) (after w before i) .number ≡ 0
-    → closings w i before ≡ j → took w i j q before ≡ none → took w i j q (before ++ (receives i q f ∷ [])) ≡ some f
+    → closings w i before ≡ j → took w i j q before ≡ none → took w i j q (before ++ (receives i q f ∷ [])) ≡ some (decode f)
 took-here w i j q f before t e z = took-at w i j q f before (before ++ (receives i q f ∷ [])) ([], refl) t e z
 
 -- A frame from another board.

@@ -5,9 +5,9 @@ use mathlib.Core.Bool.{cond}
 use lib.Dec.{eqb}
 use lib.ListN.{length, getD, drop}
 use borrow.Author.Tests.{ne-eqb}
-use Rattle.plan.specs.Outcome.{Outcome, refusal}
-use Rattle.plan.proofs.Outcomes.{refusal-number}
-use Rattle.plan.proofs.Injective.{why, why-refusal}
+use Rattle.refusals.specs.Outcome.{Outcome, refusal}
+use Rattle.refusals.proofs.Outcomes.{refusal-number}
+use Rattle.refusals.proofs.Injective.{why, why-refusal}
 use Rattle.protocol.specs.Answers.{dealtSays, sentSays, closingSays, decisionSays, playedSays}
 use Rattle.protocol.specs.declared.answers.Dealt.{Dealt}
 use Rattle.protocol.specs.declared.answers.Dealt.the-variants as D

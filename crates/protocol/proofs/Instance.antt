@@ -18,10 +18,11 @@ use Rattle.sets.proofs.Member.{member-setOf, setOf-below}
 use Rattle.sets.proofs.Tolerated.{tolerated-mono}
 use Rattle.sets.proofs.Only.{only-same}
 use Rattle.plan.specs.declared.plan.Plan.{Plan}
-use Rattle.plan.specs.Schedule.{listed, rounds}
+use Rattle.plan.specs.Listed.{listed}
 use Rattle.plan.specs.Calls.{judged}
-use Rattle.plan.proofs.ThreeCover.{q3}
-use Rattle.plan.proofs.Levels.{rounds-pos}
+use Rattle.schedule.specs.Schedule.{rounds}
+use Rattle.admission.proofs.ThreeCover.{q3}
+use Rattle.schedule.proofs.Levels.{rounds-pos}
 use Rattle.tree.specs.Labels.{Label, occurs, mask}
 use Rattle.tree.proofs.Masks.{mask-member, mask-lt}
 use Rattle.theory.specs.Tree as T

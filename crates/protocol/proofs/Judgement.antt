@@ -13,11 +13,13 @@ use Rattle.sets.specs.Sets.{within, boards}
 use Rattle.sets.proofs.Tests.{cases, clash, and-l, and-r, and-true, or-true, or-left, or-right, not-t, true-not}
 use Rattle.sets.proofs.Member.{within-boards, boards-within}
 use Rattle.plan.specs.declared.plan.Plan.{Plan}
-use Rattle.plan.specs.Schedule.{listed, hasRound}
-use Rattle.plan.specs.Outcome.{Outcome, taken, refused}
-use Rattle.plan.specs.Calls.{andThen, judged, settingsOf}
-use Rattle.plan.proofs.Outcomes.{passed, both-taken, Accepted, accepted}
-use Rattle.plan.proofs.Steps.{Has, has-round, round-has}
+use Rattle.plan.specs.Listed.{listed}
+use Rattle.schedule.specs.Schedule.{hasRound}
+use Rattle.refusals.specs.Outcome.{Outcome, taken, refused, andThen}
+use Rattle.plan.specs.Calls.{judged, settingsOf}
+use Rattle.refusals.proofs.Outcomes.{passed, both-taken}
+use Rattle.plan.proofs.Accepted.{Accepted, accepted}
+use Rattle.schedule.proofs.Steps.{Has, has-round, round-has}
 use Rattle.tree.specs.Places.{cellCount}
 use Rattle.protocol.specs.declared.records.Record.{Record}
 use Rattle.protocol.specs.Rounds.{Board}

@@ -10,7 +10,8 @@ use lib.ListN.{length}
 use Rattle.sets.specs.Sets.{member}
 use Rattle.sets.proofs.Tests.{cases}
 use Rattle.plan.specs.declared.plan.Plan.{Plan}
-use Rattle.plan.specs.declared.schedule.Round.{Round}
+use Rattle.schedule.specs.declared.rounds.Run.{Run}
+use Rattle.schedule.specs.declared.rounds.Round.{Round}
 use Rattle.tree.specs.Labels.{Label, last}
 use Rattle.tree.specs.Cells.{cellAt, store}
 use Rattle.tree.proofs.Cells.{store-length, store-other}
@@ -18,7 +19,7 @@ use Rattle.protocol.specs.declared.records.Record.{Record}
 use Rattle.plan.specs.Values.{default}
 use Rattle.protocol.specs.Nodes.{nodes, inner, sent, due, frame}
 use Rattle.protocol.specs.Detection.{Scan, maskBoard, byCell, passes, detect1, detectAll1}
-use Rattle.protocol.specs.Rounds.{fill, fillMissing, copyOwn, gather}
+use Rattle.protocol.specs.Rounds.{boardWith, fill, fillMissing, copyOwn, gather}
 use Rattle.protocol.proofs.Nodes.{inner-inv, node-label, node-length, sent-node}
 use Rattle.protocol.proofs.Fill.{IsLabel, fill-length, fill-other}
 use Rattle.protocol.proofs.Turns.{taken-stays}
@@ -58,18 +59,18 @@ module _ (p : Plan) (l : p .dealer < p .n) (i : ℕ) where
       (λ e. rw e (rest b δ m out))
 
   -- One node of rule FD1, of level k - 1.
-  module _ (k : ℕ) (α : Label) (m : List·Memᴰ α (inner p i (k - 1))) (low : 1 ≤ k) where
+  module _ (run : Run) (round : Round) (k : ℕ) (α : Label) (m : List·Memᴰ α (inner p i (k - 1))) (low : 1 ≤ k) where
     next-level : suc (length α) ≡ k
     next-level = omega (arith, node-length p i (k - 1) α (inner-inv p i (k - 1) α m .0))
 
-    pub detect1-outside : (s : Scan) → SameOutside k (s .cells) (detect1 p i α s .cells)
+    pub detect1-outside : (s : Scan) → SameOutside k (s .cells) (detect1 p i run round α s .cells)
     unfolding detect1
     detect1-outside s b γ w out =
         cases (passes p α (byCell p (s .cells) α) (s .detected))
         (λ e. rw e)
         (λ e. rw e (mask-outside (last α) k (nodes p i (suc (length α))) (s .cells) (λ x h. subst (λ z. List·Memᴰ x (nodes p i z)) next-level h) b γ w out))
 
-    pub detect1-length : (s : Scan) → length (detect1 p i α s .cells) ≡ length (s .cells)
+    pub detect1-length : (s : Scan) → length (detect1 p i run round α s .cells) ≡ length (s .cells)
     unfolding detect1
     detect1-length s =
         cases (passes p α (byCell p (s .cells) α) (s .detected))
@@ -77,20 +78,20 @@ module _ (p : Plan) (l : p .dealer < p .n) (i : ℕ) where
         (λ e. rw e (mask-length (last α) (nodes p i (suc (length α))) (s .cells)))
 
   -- All of rule FD1.
-  pub detect-outside : (k : ℕ) (αs : List Label) (s : Scan) → ((α : Label) → List·Memᴰ α αs → List·Memᴰ α (inner p i (k - 1))) → 1 ≤ k
-      → SameOutside k (s .cells) (detectAll1 p i αs s .cells)
+  pub detect-outside : (run : Run) (round : Round) (k : ℕ) (αs : List Label) (s : Scan) → ((α : Label) → List·Memᴰ α αs → List·Memᴰ α (inner p i (k - 1))) → 1 ≤ k
+      → SameOutside k (s .cells) (detectAll1 p i run round αs s .cells)
   unfolding detectAll1
-  detect-outside k [] s h low b γ m out = refl
-  detect-outside k (α ∷ αs) s h low b γ m out =
-      detect-outside k αs (detect1 p i α s) (λ β w. h β (List·Memᴰ·tail w)) low b γ m out
-      ∙ detect1-outside k α (h α (List·Memᴰ·head refl)) low s b γ m out
+  detect-outside run round k [] s h low b γ m out = refl
+  detect-outside run round k (α ∷ αs) s h low b γ m out =
+      detect-outside run round k αs (detect1 p i run round α s) (λ β w. h β (List·Memᴰ·tail w)) low b γ m out
+      ∙ detect1-outside run round k α (h α (List·Memᴰ·head refl)) low s b γ m out
 
-  pub detect-length : (k : ℕ) (αs : List Label) (s : Scan) → ((α : Label) → List·Memᴰ α αs → List·Memᴰ α (inner p i (k - 1))) → 1 ≤ k
-      → length (detectAll1 p i αs s .cells) ≡ length (s .cells)
+  pub detect-length : (run : Run) (round : Round) (k : ℕ) (αs : List Label) (s : Scan) → ((α : Label) → List·Memᴰ α αs → List·Memᴰ α (inner p i (k - 1))) → 1 ≤ k
+      → length (detectAll1 p i run round αs s .cells) ≡ length (s .cells)
   unfolding detectAll1
-  detect-length k [] s h low = refl
-  detect-length k (α ∷ αs) s h low =
-      detect-length k αs (detect1 p i α s) (λ β w. h β (List·Memᴰ·tail w)) low ∙ detect1-length k α (h α (List·Memᴰ·head refl)) low s
+  detect-length run round k [] s h low = refl
+  detect-length run round k (α ∷ αs) s h low =
+      detect-length run round k αs (detect1 p i run round α s) (λ β w. h β (List·Memᴰ·tail w)) low ∙ detect1-length run round k α (h α (List·Memᴰ·head refl)) low s
 
 -- A whole round of a board whose number is below n.
 module _ (r : Record) (l : r .plan .dealer < r .plan .n) (low : 1 ≤ r .round .0) (below : r .board < r .plan .n) where
@@ -124,18 +125,18 @@ module _ (r : Record) (l : r .plan .dealer < r .plan .n) (low : 1 ≤ r .round .
   own-length cells =
       fill-length (r .plan) l (r .board) (sent (r .plan) (r .board) (r .board) (r .round)) (frame (r .plan) (r .board) (r .board) (r .round) cells) cells
 
-  pub gather-outside : (cells : List ℕ) → SameOutside (r .plan) l (r .board) (r .round .0) cells (gather (record { rec = r; cells = cells }) .cells)
+  pub gather-outside : (cells : List ℕ) → SameOutside (r .plan) l (r .board) (r .round .0) cells (gather (boardWith r cells) .cells)
   unfolding gather
   gather-outside cells b γ m out =
       let filled = fillMissing (r .plan) (r .board) (r .round) (r .taken) (r .plan .n) cells in
-      detect-outside (r .plan) l (r .board) (r .round .0) (inner (r .plan) (r .board) (r .round .0 - 1))
+      detect-outside (r .plan) l (r .board) (r .run) (r .round) (r .round .0) (inner (r .plan) (r .board) (r .round .0 - 1))
       (record { detected = r .detected; cells = copyOwn (r .plan) (r .board) (r .round) filled }) (λ _ w. w) low b γ m out
       ∙ own-outside filled b γ m out ∙ missing-outside (r .plan .n) cells (omega arith) b γ m out
 
-  pub gather-length : (cells : List ℕ) → length (gather (record { rec = r; cells = cells }) .cells) ≡ length cells
+  pub gather-length : (cells : List ℕ) → length (gather (boardWith r cells) .cells) ≡ length cells
   unfolding gather
   gather-length cells =
       let filled = fillMissing (r .plan) (r .board) (r .round) (r .taken) (r .plan .n) cells in
-      detect-length (r .plan) l (r .board) (r .round .0) (inner (r .plan) (r .board) (r .round .0 - 1))
+      detect-length (r .plan) l (r .board) (r .run) (r .round) (r .round .0) (inner (r .plan) (r .board) (r .round .0 - 1))
       (record { detected = r .detected; cells = copyOwn (r .plan) (r .board) (r .round) filled }) (λ _ w. w) low
       ∙ own-length filled ∙ missing-length (r .plan .n) cells

@@ -11,7 +11,7 @@ use lib.ListN.{length}
 use borrow.Author.Tests.{eqb-true, eqb-false, eq-eqb, ne-eqb}
 use Rattle.sets.proofs.Tests.{cases, not-t, true-not}
 use Rattle.plan.specs.declared.plan.Plan.{Plan}
-use Rattle.plan.specs.declared.schedule.Round.{Round}
+use Rattle.schedule.specs.declared.rounds.Round.{Round}
 use Rattle.tree.specs.Labels.{Label, occurs, labels, childrenOf}
 use Rattle.tree.proofs.Labels.{ChildBelow, of-child, child-of, root-has, label-has, label-length}
 use Rattle.protocol.specs.Nodes.{filter, internal, nodes, inner, carried, sent}

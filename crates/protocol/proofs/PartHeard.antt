@@ -8,12 +8,12 @@ use native.Mathlib.Omega.{arith}
 use lib.Dec.{ltb}
 use lib.ListN.{length, drop, replicate, length-append, length-replicate, length-drop}
 use Rattle.sets.proofs.Tests.{cases}
-use Rattle.plan.specs.Schedule.{rounds, steps, stepRun, stepRound}
+use Rattle.schedule.specs.Schedule.{rounds, steps, stepRun, stepRound}
 use Rattle.tree.specs.Places.{cellCount}
 use Rattle.tree.specs.Cells.{blank}
 use Rattle.protocol.specs.declared.records.Record.{Record}
 use Rattle.protocol.specs.Records.{runEnded}
-use Rattle.protocol.specs.Rounds.{Board, nextRound, convert, close}
+use Rattle.protocol.specs.Rounds.{boardWith, Board, nextRound, convert, close}
 use Rattle.protocol.specs.Calls.{freshRecord, frameOf}
 use Rattle.protocol.specs.Session.{Adversary, Setting, at}
 use Rattle.protocol.specs.Lists.{keeper, Sound}
@@ -52,7 +52,7 @@ module _ (s : Setting) (a : Adversary) (sound : Sound s) where
       let cells = at s a j i .cells in
       let msg = told s a i j in
       let g : Good r = subst Good (st .shape) (st .good) in
-      let is : at s a j i ≡ record { rec = r; cells = cells } = ap (λ (x : Record). board-of x cells) (st .shape) in
+      let is : at s a j i ≡ boardWith r cells = ap (λ (x : Record). board-of x cells) (st .shape) in
       subst (MidStep s a j i) (sym (hear-shape r g refl msg cells (st .room) (at s a j i) is q h))
       (record {
         opened = heard-open r g refl msg cells (st .room) q h;
@@ -65,7 +65,7 @@ module _ (s : Setting) (a : Adversary) (sound : Sound s) where
       })
     where
       board-of : Record → List ℕ → Board
-      board-of x c = record { rec = x; cells = c }
+      board-of x c = boardWith x c
 
   at-close : (j i : ℕ) → keeper s i ≡ true → suc j ≤ steps (s .plan) → at s a (suc j) i ≡ close (hear (told s a i j) (at s a j i) (s .plan .n))
   at-close j i k l =

@@ -15,7 +15,7 @@ use Rattle.sets.specs.Sets.{member, within}
 use Rattle.sets.proofs.Tests.{cases, clash, and-l, and-true, true-not}
 use Rattle.sets.proofs.Search.{any-true, any-false}
 use Rattle.sets.proofs.Member.{within-empty}
-use Rattle.plan.specs.Schedule.{steps}
+use Rattle.schedule.specs.Schedule.{steps}
 use Rattle.protocol.specs.Limits.{sheetMost, outputNeeded, cellsNeeded}
 use Rattle.protocol.specs.Session.{Setting, Boards, boardAt, at}
 use Rattle.protocol.specs.Sheet.{Head, Frame, headPlan, wrongAt, reading}

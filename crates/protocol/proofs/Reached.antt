@@ -10,17 +10,18 @@ use lib.Dec.{eqb, ltb}
 use lib.ListN.{length, getD, drop, replicate, length-append, length-replicate, length-drop, getD-replicate, List·getD-append}
 use lib.Pow.{pow-pos}
 use borrow.Author.Tests.{eqb-false, ltb-true}
+use Rattle.codec.specs.Codec.{decode}
 use Rattle.sets.specs.Sets.{member, insert}
 use Rattle.sets.proofs.Tests.{cases, clash, and-l, or-l, or-r}
 use Rattle.sets.proofs.Member.{member-insert}
 use Rattle.plan.specs.declared.plan.Plan.{Plan}
-use Rattle.plan.specs.declared.schedule.Round.{Round}
-use Rattle.plan.specs.Schedule.{rounds, runs}
-use Rattle.plan.specs.Outcome.{taken, refused}
+use Rattle.schedule.specs.declared.rounds.Round.{Round}
+use Rattle.schedule.specs.Schedule.{rounds, runs}
+use Rattle.refusals.specs.Outcome.{taken, refused}
 use Rattle.plan.specs.Calls.{judged}
-use Rattle.plan.proofs.Levels.{rounds-pos, runs-pos}
-use Rattle.plan.proofs.Outcomes.{both-taken, passed}
-use Rattle.plan.proofs.Steps.{later-rounds}
+use Rattle.schedule.proofs.Levels.{rounds-pos, runs-pos}
+use Rattle.refusals.proofs.Outcomes.{both-taken, passed}
+use Rattle.schedule.proofs.Steps.{later-rounds}
 use Rattle.tree.specs.Labels.{Label, last}
 use Rattle.tree.specs.Places.{cellCount, place}
 use Rattle.tree.specs.Cells.{blank, cellAt}
@@ -29,14 +30,15 @@ use Rattle.tree.proofs.Places.{place-lt, some-cell, place-levels}
 use Rattle.protocol.specs.Nodes.{nodes, sent, due}
 use Rattle.protocol.specs.Detection.{Scan, resolveRoot}
 use Rattle.protocol.specs.Records.{runEnded}
-use Rattle.protocol.specs.Rounds.{Board, counted, receive, gather, nextRound, convert, close, rootOnly}
-use Rattle.protocol.specs.Calls.{isTaken, judgeBoard, judgeCells, judgeOpen, judgeBeginning, beginning, freshRecord, judgeReceiving, receiving, closing}
+use Rattle.protocol.specs.Rounds.{boardWith, Board, counted, receive, gather, nextRound, convert, close, rootOnly}
+use Rattle.protocol.specs.Calls.{isTaken, judgeBoard, judgeCells, judgeOpen, judgeBeginning, beginning, freshRecord, judgeReceiving, taking, receiving, closing}
 use Rattle.protocol.specs.Lists.{Call, receives, sends, closes, decides, leaves, caller, step, after}
 use Rattle.protocol.proofs.Nodes.{sent-node, node-label, node-length, root-node}
 use Rattle.protocol.proofs.Fill.{IsLabel, fill-other, fill-length}
 use Rattle.protocol.proofs.Local.{gather-outside, gather-length}
 use Rattle.protocol.proofs.Judgement.{is-taken, taken-is, plan-facts, Good, good-dealer, Open, open-facts, cells-facts, board-facts}
-use Rattle.protocol.proofs.Bounds.{insert-below, gather-below, levels-below, root-small}
+use Rattle.protocol.proofs.Listing.{insert-below}
+use Rattle.protocol.proofs.Bounds.{gather-below, levels-below, root-small}
 use Rattle.protocol.proofs.Turns.{frame-stored, decides-root}
 
 -- A begun board's record is good.
@@ -71,7 +73,7 @@ receive-good q f b g l = record {
 }
 
 pub next-good : (b : Board) (s : Scan) → Good (b .rec) → s .detected < 2 ^ b .rec .plan .n → b .rec .round .0 < rounds (b .rec .plan) .0
-    → Good (nextRound (b .rec) s .rec)
+    → Good (nextRound b s .rec)
 unfolding nextRound
 next-good b s g d l = record {
   plan-good = g .plan-good;
@@ -89,16 +91,16 @@ next-good b s g d l = record {
   decision-below = λ x. clash x refl;
 }
 
-pub convert-good : (b : Board) (s : Scan) → Good (b .rec) → s .detected < 2 ^ b .rec .plan .n → Good (convert (b .rec) s .rec)
+pub convert-good : (b : Board) (s : Scan) → Good (b .rec) → s .detected < 2 ^ b .rec .plan .n → Good (convert b s .rec)
 unfolding convert runEnded
 convert-good b s g d =
     let r = b .rec in
     let p = r .plan in
     let two = plan-facts p (g .plan-good) .two-values in
-    let listed-below = levels-below p (good-dealer r g) (r .board) (s .cells) (rounds p .0 - 1) (s .detected) d in
+    let listed-below = levels-below p (good-dealer r g) (r .board) (r .run) (r .round) (s .cells) (rounds p .0 - 1) (s .detected) d in
     cases (eqb (r .run .0) (runs p .0))
-    (λ e. let small : convert r s .rec .decision < p .span =
-    subst {A = ℕ} (λ v. v < p .span) (sym (decides-root r s e)) (root-small p (omega arith) (r .board) (s .cells)) in
+    (λ e. let small : convert b s .rec .decision < p .span =
+    subst {A = ℕ} (λ v. v < p .span) (sym (decides-root b s e)) (root-small p (omega arith) (r .board) (s .cells)) in
     rw e (record {
       plan-good = g .plan-good;
       below = g .below;
@@ -146,7 +148,7 @@ Vacant b = (l : b .rec .plan .dealer < b .rec .plan .n) (k : ℕ) (α : Label) �
     → cellAt (b .rec .plan .n) (b .cells) α ≡ blank
 
 pub fresh-vacant : (p : Plan) (i : ℕ) (cells : List ℕ)
-    → Vacant (record { rec = freshRecord p i; cells = replicate (cellCount (p .n)) blank ++ drop (cellCount (p .n)) cells })
+    → Vacant (boardWith (freshRecord p i) (replicate (cellCount (p .n)) blank ++ drop (cellCount (p .n)) cells))
 unfolding cellAt freshRecord
 fresh-vacant p i cells l k α m v =
     let here = place-lt (p .n) (p .dealer) k α l m in
@@ -205,7 +207,7 @@ receive-vacant q f b o lq h l k α m v =
     ∙ h l k α m (still q f b o lq l k α v)
 
 -- Closing a round writes only nodes of that round.
-pub next-vacant : (b : Board) → Open b → Vacant b → Vacant (nextRound (b .rec) (gather b))
+pub next-vacant : (b : Board) → Open b → Vacant b → Vacant (nextRound b (gather b))
 unfolding nextRound
 next-vacant b o h l k α m v =
     let r = b .rec in
@@ -238,7 +240,7 @@ root-only p l root cells k α m =
     ∙ ap (λ y. getD (root ∷ replicate (cellCount n - 1) blank) y blank) j
     ∙ getD-replicate (cellCount n - 1) (x - 1) blank blank (omega arith)
 
-pub convert-vacant : (b : Board) (s : Scan) → Vacant (convert (b .rec) s)
+pub convert-vacant : (b : Board) (s : Scan) → Vacant (convert b s)
 unfolding convert runEnded
 convert-vacant b s l zero α m v = absurd (no-label (b .rec .plan .n) (b .rec .plan .dealer) α m)
 convert-vacant b s l (suc zero) α m v =
@@ -316,26 +318,26 @@ due-sender p q i k e =
     let rest = not (eqb q i) && (not (eqb i (p .dealer)) && ltb 0 (length (sent p q i k))) in
     ltb-true q (p .n) (and-l (ltb q (p .n)) (ltb i (p .n)) (and-l (ltb q (p .n) && ltb i (p .n)) rest e))
 
-pub receiving-taken : (b : Board) (q : ℕ) (f : List ℕ) → judgeReceiving b q .number ≡ 0 → receiving b q f .board ≡ receive q f b
-unfolding receiving
-receiving-taken b q f e = rw (taken-is (judgeReceiving b q) e)
+pub taking-taken : (b : Board) (q : ℕ) (vs : List ℕ) → judgeReceiving b q .number ≡ 0 → taking b q vs .board ≡ receive q vs b
+unfolding taking
+taking-taken b q vs e = rw (taken-is (judgeReceiving b q) e)
 
-pub receiving-refused : (b : Board) (q : ℕ) (f : List ℕ) → isTaken (judgeReceiving b q) ≡ false → receiving b q f .board ≡ b
-unfolding receiving
-receiving-refused b q f e = rw e
+pub taking-refused : (b : Board) (q : ℕ) (vs : List ℕ) → isTaken (judgeReceiving b q) ≡ false → taking b q vs .board ≡ b
+unfolding taking
+taking-refused b q vs e = rw e
 
-pub reached-receiving : (b : Board) (q : ℕ) (f : List ℕ) → Reached b → Reached (receiving b q f .board)
-reached-receiving b q f h =
+pub reached-taking : (b : Board) (q : ℕ) (vs : List ℕ) → Reached b → Reached (taking b q vs .board)
+reached-taking b q vs h =
     cases (isTaken (judgeReceiving b q))
     (λ e. let t = is-taken (judgeReceiving b q) e in
     let (o, on, new) = receiving-facts b q t in
     let lq = due-sender (b .rec .plan) q (b .rec .board) (b .rec .round) on in
-    rw (receiving-taken b q f t) (unfold receive in record {
-      good = receive-good q f b (h .good) lq;
-      room = rw (receive-length q f b o) (h .room);
-      vacant = receive-vacant q f b o lq (h .vacant);
+    rw (taking-taken b q vs t) (unfold receive in record {
+      good = receive-good q vs b (h .good) lq;
+      room = rw (receive-length q vs b o) (h .room);
+      vacant = receive-vacant q vs b o lq (h .vacant);
     }))
-    (λ e. rw (receiving-refused b q f e) h)
+    (λ e. rw (taking-refused b q vs e) h)
 
 pub closing-taken : (b : Board) → judgeOpen b .number ≡ 0 → closing b .board ≡ close b
 unfolding closing
@@ -382,7 +384,7 @@ reached-after [] w i h = h
 reached-after (c ∷ calls) w i h = reached-after calls (step w c) i (one c)
   where
     done : (c : Call) → Reached (leaves c (w i))
-    done (receives j q f) = unfold leaves in reached-receiving (w i) q f h
+    done (receives j q f) = unfold leaves receiving in reached-taking (w i) q (decode f) h
     done (sends j out) = unfold leaves in h
     done (closes j) = unfold leaves in reached-closing (w i) h
     done (decides j) = unfold leaves in h

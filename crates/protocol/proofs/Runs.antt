@@ -14,9 +14,9 @@ use Rattle.sets.specs.Sets.{member}
 use Rattle.sets.specs.Only.{same}
 use Rattle.sets.proofs.Tests.{cases, clash, is-false, and-l, and-r, and-true, not-t, true-not}
 use Rattle.plan.specs.declared.plan.Plan.{Plan}
-use Rattle.plan.specs.declared.schedule.Round.{Round}
-use Rattle.plan.specs.Schedule.{rounds, steps, step, stepRun, stepRound}
-use Rattle.plan.proofs.Steps.{Has, round-of-step}
+use Rattle.schedule.specs.declared.rounds.Round.{Round}
+use Rattle.schedule.specs.Schedule.{rounds, steps, step, stepRun, stepRound}
+use Rattle.schedule.proofs.Steps.{Has, round-of-step}
 use Rattle.tree.specs.Labels.{Label, occurs, last}
 use Rattle.theory.specs.Tree as T
 use Rattle.plan.specs.Values.{default}
@@ -55,7 +55,7 @@ module _ (s : Setting) (a : Adversary) (sound : Sound s) where
     pub scan-more : (r : ℕ) → member r (at s a j i .rec .detected) ≡ true → member r (scan j i .detected) ≡ true
     scan-more r t =
         subst (λ x. member r (x .detected) ≡ true) (sym is-scanned)
-        (scan-grow plan (dealer-below s a sound j l (inv s a sound j l)) i (open-round s a sound j - 1) (inner plan i (open-round s a sound j - 1)) _ r (λ _ m. m) t)
+        (scan-grow plan (dealer-below s a sound j l (inv s a sound j l)) i (stepRun plan (suc j)) (stepRound plan (suc j)) (open-round s a sound j - 1) (inner plan i (open-round s a sound j - 1)) _ r (λ _ m. m) t)
 
     pub next-board : open-round s a sound j < R → (at s a (suc j) i .rec .detected ≡ scan j i .detected) × (at s a (suc j) i .cells ≡ scan j i .cells)
     unfolding nextRound
@@ -64,7 +64,7 @@ module _ (s : Setting) (a : Adversary) (sound : Sound s) where
         (ap (λ (b : Board). b .rec .detected) e, ap (λ (b : Board). b .cells) e)
 
     pub ended-board : R ≤ open-round s a sound j
-        → at s a (suc j) i .rec .detected ≡ detectLevels plan i (scan j i .cells) (R - 1) (scan j i .detected)
+        → at s a (suc j) i .rec .detected ≡ detectLevels plan i (stepRun plan (suc j)) (stepRound plan (suc j)) (scan j i .cells) (R - 1) (scan j i .detected)
     unfolding convert runEnded
     ended-board h = ap (λ (b : Board). b .rec .detected) (run-ends s a sound j l (inv s a sound j l) i ki h)
 
@@ -162,7 +162,7 @@ module _ (s : Setting) (a : Adversary) (sound : Sound s) where
         let here : read plan (scan j i .cells) (r ∷ α) ≡ default plan =
         ap (λ x. read plan (x .cells) (r ∷ α)) (is-scanned j i ki lj)
         ∙ ⊎-elim (λ x. x ∙ stored-default) (λ x. x .0)
-        (scan-cell plan ld i (open-round s a sound j - 1) (inner plan i (open-round s a sound j - 1)) _ (suc (suc e)) (r ∷ α) (λ _ y. y) label (room s a sound j lj I i ki)) in
+        (scan-cell plan ld i (stepRun plan (suc j)) (stepRound plan (suc j)) (open-round s a sound j - 1) (inner plan i (open-round s a sound j - 1)) _ (suc (suc e)) (r ∷ α) (λ _ y. y) label (room s a sound j lj I i ki)) in
         ap (λ x. read plan (scan x i .cells) (r ∷ α)) (sym back)
         ∙ run-keeps i ki (R - suc (suc e)) j (omega arith) (omega arith) ld (suc (suc e)) (r ∷ α) label (omega arith) ∙ here
 
@@ -180,8 +180,8 @@ module _ (s : Setting) (a : Adversary) (sound : Sound s) where
         let more : (c : ℕ) → member c (scan j i .detected) ≡ true → member c (scan jE i .detected) ≡ true =
         λ c t. subst (λ x. member c (scan x i .detected) ≡ true) back (run-grows i ki (R - suc (suc e)) j (omega arith) (omega arith) c t) in
         let u′ : member (last β) (scan j i .detected) ≡ false = is-false (member (last β) (scan j i .detected)) (λ t. clash (more (last β) t) u) in
-        let (v, lv, t) = subst (λ x. SparedBy plan ld i (open-round s a sound j - 1) x β) (sym (is-scanned j i ki lj))
-        (scan-spared plan ld i (open-round s a sound j - 1) (inner plan i (open-round s a sound j - 1)) _ β (λ _ y. y) m′ (room s a sound j lj I i ki)
+        let (v, lv, t) = subst (λ x. SparedBy plan ld i (stepRun plan (suc j)) (stepRound plan (suc j)) (open-round s a sound j - 1) x β) (sym (is-scanned j i ki lj))
+        (scan-spared plan ld i (stepRun plan (suc j)) (stepRound plan (suc j)) (open-round s a sound j - 1) (inner plan i (open-round s a sound j - 1)) _ β (λ _ y. y) m′ (room s a sound j lj I i ki)
         (subst (λ x. member (last β) (x .detected) ≡ false) (is-scanned j i ki lj) u′)) in (
           v,
           lv,
@@ -208,7 +208,7 @@ module _ (s : Setting) (a : Adversary) (sound : Sound s) where
     unfolding byResolving
     spared-fd2 e k β m eq size u =
         let cells = scan jE i .cells in
-        let (v, lv, t) = levels-spared plan i cells (R - 1) (scan jE i .detected) (suc e) β (omega arith) (omega arith) m
+        let (v, lv, t) = levels-spared plan i (stepRun plan (suc jE)) (stepRound plan (suc jE)) cells (R - 1) (scan jE i .detected) (suc e) β (omega arith) (omega arith) m
         (subst (λ x. member (last β) x ≡ false) (ended-board jE i ki lE (omega arith)) u) in
         let left : R - suc (length β) ≡ k = omega arith in (
           v,

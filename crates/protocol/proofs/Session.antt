@@ -16,10 +16,10 @@ use Rattle.sets.proofs.Search.{any-same}
 use Rattle.sets.proofs.Count.{count-same}
 use Rattle.sets.proofs.Member.{member-within, member-setOf, setOf-below, size-count}
 use Rattle.plan.specs.declared.plan.Plan.{Plan}
-use Rattle.plan.specs.Schedule.{depthOf, isCut, rounds, runs, steps, stepRun}
-use Rattle.plan.proofs.Levels.{rounds-pos, runs-pos, rounds-full, rounds-cut}
-use Rattle.plan.proofs.Height.{height-most}
-use Rattle.plan.proofs.Steps.{runs-enough, cut-four}
+use Rattle.schedule.specs.Schedule.{depthOf, isCut, rounds, runs, steps, stepRun}
+use Rattle.schedule.proofs.Levels.{rounds-pos, runs-pos, rounds-full, rounds-cut}
+use Rattle.schedule.proofs.Height.{height-most}
+use Rattle.schedule.proofs.Steps.{runs-enough, cut-four}
 use Rattle.tree.specs.Cells.{blank}
 use Rattle.theory.specs.Tree as T
 use Rattle.theory.specs.Runs as U
@@ -33,7 +33,7 @@ use Rattle.protocol.specs.Claims.{ended, rootAfter, listEnded, SessionAg
 use Rattle.protocol.proofs.Judgement.{plan-facts}
 use Rattle.protocol.proofs.Instance.{inst, tol}
 use Rattle.protocol.proofs.Reached.{close-good, close-plan}
-use Rattle.protocol.proofs.Gathering.{listOf}
+use Rattle.protocol.proofs.Listing.{listOf}
 use Rattle.protocol.proofs.Synchronous.{standing, ready, ready-open, after-step}
 use Rattle.protocol.proofs.Delivery.{good, healthy, healthy-keeper, st}
 use Rattle.protocol.proofs.Soundness.{open-round, inv, run-ends, lists-within}

@@ -16,10 +16,11 @@ use Rattle.sets.specs.Sets.{within, boards}
 use Rattle.sets.specs.Structure.{tolerated}
 use Rattle.sets.proofs.Tests.{cases, and-l, and-r, or-r, not-f}
 use Rattle.plan.specs.declared.plan.Plan.{Plan}
-use Rattle.plan.specs.Schedule.{listed}
-use Rattle.plan.specs.Outcome.{Outcome, taken, refused}
+use Rattle.plan.specs.Listed.{listed}
+use Rattle.refusals.specs.Outcome.{Outcome, taken, refused}
 use Rattle.plan.specs.Calls.{planning, planOn, judged}
-use Rattle.plan.proofs.Outcomes.{passed, both-taken, accepted, planned-taken, planned-judged}
+use Rattle.refusals.proofs.Outcomes.{passed, both-taken}
+use Rattle.plan.proofs.Accepted.{accepted, planned-taken, planned-judged}
 use Rattle.tree.specs.Places.{levelSize, levelStart, cellCount}
 use Rattle.tree.proofs.Below.{most}
 use Rattle.protocol.specs.Limits.{cellsNeeded}

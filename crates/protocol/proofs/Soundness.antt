@@ -14,8 +14,8 @@ use Rattle.sets.specs.Sets.{member}
 use Rattle.sets.proofs.Tests.{cases, clash, is-false}
 use Rattle.sets.proofs.Member.{member-empty}
 use Rattle.plan.specs.declared.plan.Plan.{Plan}
-use Rattle.plan.specs.declared.schedule.Round.{Round}
-use Rattle.plan.specs.Schedule.{rounds, steps, stepRun, stepRound}
+use Rattle.schedule.specs.declared.rounds.Round.{Round}
+use Rattle.schedule.specs.Schedule.{rounds, steps, stepRun, stepRound}
 use Rattle.tree.specs.Labels.{Label, occurs, last}
 use Rattle.tree.specs.Places.{cellCount, place, levelStart, levelSize, rank}
 use Rattle.tree.specs.Cells.{cellAt}
@@ -33,14 +33,15 @@ use Rattle.protocol.specs.Records.{runEnded}
 use Rattle.protocol.specs.Rounds.{rootOnly, nextRound, convert, Board, gather}
 use Rattle.protocol.specs.Session.{Adversary, Setting, at}
 use Rattle.protocol.specs.Calls.{freshRecord}
-use Rattle.plan.proofs.Levels.{rounds-pos}
+use Rattle.schedule.proofs.Levels.{rounds-pos}
 use Rattle.protocol.specs.Lists.{keeper, Sound}
 use Rattle.protocol.proofs.Nodes.{inner-same, inner-inv, inner-has, node-label, node-length, node-root, node-inv, node-has, no-node}
 use Rattle.protocol.proofs.Fill.{IsLabel}
 use Rattle.protocol.proofs.Judgement.{plan-facts}
 use Rattle.protocol.proofs.Bounds.{read-small, root-small}
 use Rattle.protocol.proofs.Instance.{inst, mem-node, node-mem, node-level, node-size, resolve-inst}
-use Rattle.protocol.proofs.Gathering.{listOf, scan-cell, scan-sound}
+use Rattle.protocol.proofs.Listing.{listOf}
+use Rattle.protocol.proofs.Gathering.{scan-cell, scan-sound}
 use Rattle.protocol.proofs.Hearing.{hear, stored, filled, filled-length, delivered, value-same}
 use Rattle.protocol.proofs.Synchronous.{at-start, begun-shape, told, keeper-facts, standing, position, number, heard-all, ready, after-step, close-next, close-last, next-run, more-runs}
 use Rattle.protocol.proofs.Delivery.{good, healthy, healthy-keeper, told-word, st, rec, rec-good, stored-cells, scanned, stored-healthy, scanned-other}
@@ -129,7 +130,7 @@ module _ (s : Setting) (a : Adversary) (sound : Sound s) where
     scan-lists i ki =
         let k = open-round j - 1 in
         let high = position s a sound j i ki (standing s a sound j i ki l) l .round-high in
-        scan-sound plan dealer-below i k F (good s a sound) (inner plan i k)
+        scan-sound plan dealer-below i (stepRun plan (suc j)) (stepRound plan (suc j)) k F (good s a sound) (inner plan i k)
         (record { detected = at s a j i .rec .detected; cells = stored-cells s a sound j i ki l })
         {j = rounds plan .0 - k}
         (λ α m. mem-node plan i k (rounds plan .0 - k) α (inner-inv plan i k α m .0) (omega arith))
@@ -146,7 +147,7 @@ module _ (s : Setting) (a : Adversary) (sound : Sound s) where
     unfolding last
     scan-keeps i q ki b α lq f w =
         ⊎-elim (λ x. x) (λ x. clash (scan-lists i ki q lq (x .1)) f)
-        (scan-cell plan dealer-below i (open-round j - 1) (inner plan i (open-round j - 1))
+        (scan-cell plan dealer-below i (stepRun plan (suc j)) (stepRound plan (suc j)) (open-round j - 1) (inner plan i (open-round j - 1))
         (record { detected = at s a j i .rec .detected; cells = stored-cells s a sound j i ki l }) b (q ∷ α) (λ _ m. m) w (room i ki))
 
     -- After rule FD1 a healthy board's child has that board's cell, in this level too.
@@ -253,15 +254,15 @@ module _ (s : Setting) (a : Adversary) (sound : Sound s) where
 
       -- Rule FD2 lists faulty boards only.
       pub convert-lists : (i : ℕ) → keeper s i ≡ true
-          → T.Sub (plan .n) (listOf (detectLevels plan i (scan-of i .cells) (rounds plan .0 - 1) (scan-of i .detected))) (listOf F)
+          → T.Sub (plan .n) (listOf (detectLevels plan i (stepRun plan (suc j)) (stepRound plan (suc j)) (scan-of i .cells) (rounds plan .0 - 1) (scan-of i .detected))) (listOf F)
       unfolding byResolving
       convert-lists i ki =
-          levels-sound plan i (scan-of i .cells) F (good s a sound) (rounds plan .0 - 1) (scan-of i .detected)
+          levels-sound plan i (stepRun plan (suc j)) (stepRound plan (suc j)) (scan-of i .cells) F (good s a sound) (rounds plan .0 - 1) (scan-of i .detected)
           (λ k α low high m. at-level k α low high m)
           (subst (λ x. T.Sub (plan .n) (listOf (x .detected)) (listOf F)) (sym (scan-is i ki)) (scan-lists i ki))
         where
           at-level : (k : ℕ) (α : Label) → 1 ≤ k → k ≤ rounds plan .0 - 1 → List·Memᴰ α (inner plan i k)
-              → (left : ℕ) × T.Node (inst plan) i left α × Minds plan i (scan-of i .cells) F (good s a sound) α
+              → (left : ℕ) × T.Node (inst plan) i left α × Minds plan i (stepRun plan (suc j)) (stepRound plan (suc j)) (scan-of i .cells) F (good s a sound) α
           at-level zero α low high m = absurd (omega arith)
           at-level (suc e) α low high m =
               let (w, inn) = inner-inv plan i (suc e) α m in
@@ -299,15 +300,15 @@ module _ (s : Setting) (a : Adversary) (sound : Sound s) where
       gathered : gather ready-board ≡ scan-of i
       gathered = ap gather (sym (heard-all s a sound j i ki (st s a sound j i ki l) l))
 
-      pub within-run : open-round j < rounds plan .0 → at s a (suc j) i ≡ nextRound (ready-board .rec) (scan-of i)
+      pub within-run : open-round j < rounds plan .0 → at s a (suc j) i ≡ nextRound ready-board (scan-of i)
       within-run h =
           after-step s a sound j i ki (st s a sound j i ki l) l ∙ close-next s a sound j i ki (st s a sound j i ki l) l h
-          ∙ ap (nextRound (ready-board .rec)) gathered
+          ∙ ap (nextRound ready-board) gathered
 
-      pub run-ends : rounds plan .0 ≤ open-round j → at s a (suc j) i ≡ convert (ready-board .rec) (scan-of i)
+      pub run-ends : rounds plan .0 ≤ open-round j → at s a (suc j) i ≡ convert ready-board (scan-of i)
       run-ends h =
           after-step s a sound j i ki (st s a sound j i ki l) l ∙ close-last s a sound j i ki (st s a sound j i ki l) l h
-          ∙ ap (convert (ready-board .rec)) gathered
+          ∙ ap (convert ready-board) gathered
 
       high : open-round j ≤ rounds plan .0
       high = position s a sound j i ki (st s a sound j i ki l) l .round-high

@@ -2,7 +2,7 @@
 -- Assumes nothing.
 use mathlib.Core.List.{List}
 use Rattle.protocol.specs.Session.{Setting}
-use Rattle.protocol.specs.Lists.{Call, receives, closes, HandedIn, Fair, StrictlyFair}
+use Rattle.protocol.specs.Lists.{Call, receives, closes, Fair, StrictlyFair}
 use Rattle.protocol.proofs.Prefixes.{stands-prefix, stands-in}
 
 pub strictly-fair : (s : Setting) (calls : List Call) → StrictlyFair s calls → Fair s calls

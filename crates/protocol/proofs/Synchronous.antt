@@ -14,25 +14,24 @@ use borrow.Author.Tests.{eqb-false, ne-eqb, ltb-true, ltb-false, lt-ltb, le-ltb,
 use Rattle.sets.specs.Sets.{member}
 use Rattle.sets.proofs.Tests.{cases, and-l, and-r, not-t}
 use Rattle.plan.specs.declared.plan.Plan.{Plan}
-use Rattle.plan.specs.declared.schedule.Run.{Run}
-use Rattle.plan.specs.declared.schedule.Round.{Round}
-use Rattle.plan.specs.Schedule.{rounds, runs, steps, step, stepRun, stepRound}
-use Rattle.plan.specs.Outcome.{taken}
-use Rattle.plan.specs.Calls.{andThen, judged}
-use Rattle.plan.proofs.Steps.{Has, run-split, run-of-step, round-of-step, step-has, step-of-round, later-rounds}
+use Rattle.schedule.specs.declared.rounds.Run.{Run}
+use Rattle.schedule.specs.declared.rounds.Round.{Round}
+use Rattle.schedule.specs.Schedule.{rounds, runs, steps, step, stepRun, stepRound}
+use Rattle.refusals.specs.Outcome.{taken, andThen}
+use Rattle.plan.specs.Calls.{judged}
+use Rattle.schedule.proofs.Steps.{Has, run-split, run-of-step, round-of-step, step-has, step-of-round, later-rounds}
 use Rattle.tree.specs.Places.{cellCount}
 use Rattle.tree.specs.Cells.{blank}
 use Rattle.protocol.specs.declared.records.Record.{Record}
-use Rattle.protocol.specs.Records.{runEnded}
-use Rattle.protocol.specs.Rounds.{Board, gather, nextRound, convert, close}
+use Rattle.protocol.specs.Records.{runEnded, withTaken}
+use Rattle.protocol.specs.Rounds.{boardWith, Board, gather, nextRound, convert, close}
 use Rattle.protocol.specs.Calls.{judgeBoard, judgeBeginning, freshRecord, beginning, closing}
 use Rattle.protocol.specs.Session.{table, Adversary, Setting, Boards, nobody, boardAt, begun, hears, handIn, hearAll, session, at}
 use Rattle.protocol.specs.Lists.{keeper, Sound}
 use Rattle.protocol.proofs.Judgement.{Good, Open, open-taken, board-taken, cells-taken, taken-is}
 use Rattle.protocol.proofs.Reached.{closing-taken, fresh-good, close-good, close-length}
-use Rattle.plan.proofs.Outcomes.{taken-first}
-use Rattle.plan.proofs.Levels.{rounds-pos, runs-pos}
-use Rattle.protocol.specs.Records.{withTaken}
+use Rattle.refusals.proofs.Outcomes.{taken-first}
+use Rattle.schedule.proofs.Levels.{rounds-pos, runs-pos}
 use Rattle.protocol.proofs.Hearing.{hear, marks, heardCells, heard-open, hear-shape}
 use Rattle.protocol.specs.Detection.{detectLevels}
 
@@ -141,7 +140,7 @@ module _ (s : Setting) (a : Adversary) (sound : Sound s) where
 
   -- Board i as its beginning left it.
   pub begun-shape : (i : ℕ) → keeper s i ≡ true
-      → begun s i ≡ record { rec = freshRecord plan i; cells = replicate (cellCount (plan .n)) blank ++ drop (cellCount (plan .n)) (s .buffer i) }
+      → begun s i ≡ boardWith (freshRecord plan i) (replicate (cellCount (plan .n)) blank ++ drop (cellCount (plan .n)) (s .buffer i))
   unfolding begun beginning judgeBeginning andThen
   begun-shape i k =
       let (l, _, ne) = keeper-facts i k in
@@ -171,7 +170,7 @@ module _ (s : Setting) (a : Adversary) (sound : Sound s) where
       let (l, _, ne) = keeper-facts i k in
       let e = at-start s a i l ∙ begun-shape i k in
       let cells = replicate (cellCount (plan .n)) blank ++ drop (cellCount (plan .n)) (s .buffer i) in
-      let b : Board = record { rec = freshRecord plan i; cells = cells } in
+      let b : Board = boardWith (freshRecord plan i) cells in
       record {
         shape = subst (λ x. x .rec ≡ canon i 0 (x .rec .detected)) (sym e)
             (ap₂ (λ (t : Run) (q : Round). record-of i t q 0) (sym (first-position .0)) (sym (first-position .1)));
@@ -193,7 +192,7 @@ module _ (s : Setting) (a : Adversary) (sound : Sound s) where
 
     -- The record with its marks, and the cells, as closing begins.
     abbrev pub ready : Board
-    ready = record { rec = withTaken r (marks r (told s a i j) (plan .n)); cells = heardCells r (told s a i j) cells (plan .n) }
+    ready = boardWith (withTaken r (marks r (told s a i j) (plan .n))) (heardCells r (told s a i j) cells (plan .n))
 
     pub ready-open : Open ready
     ready-open = heard-open r good-r refl (told s a i j) cells (st .room) (plan .n) (omega arith)
@@ -204,7 +203,7 @@ module _ (s : Setting) (a : Adversary) (sound : Sound s) where
         (ap (λ x. board-of x cells) (st .shape)) (plan .n) (omega arith)
       where
         board-of : Record → List ℕ → Board
-        board-of x c = record { rec = x; cells = c }
+        board-of x c = boardWith x c
 
     pub after-step : at s a (suc j) i ≡ close ready
     after-step =
@@ -218,11 +217,11 @@ module _ (s : Setting) (a : Adversary) (sound : Sound s) where
     number = step-of-round plan (suc j) (omega arith) more
 
     -- Within a run.
-    pub close-next : stepRound plan (suc j) .0 < rounds plan .0 → close ready ≡ nextRound (ready .rec) (gather ready)
+    pub close-next : stepRound plan (suc j) .0 < rounds plan .0 → close ready ≡ nextRound ready (gather ready)
     unfolding close
     close-next l = rw (lt-ltb (stepRound plan (suc j) .0) (rounds plan .0) l)
 
-    pub close-last : rounds plan .0 ≤ stepRound plan (suc j) .0 → close ready ≡ convert (ready .rec) (gather ready)
+    pub close-last : rounds plan .0 ≤ stepRound plan (suc j) .0 → close ready ≡ convert ready (gather ready)
     unfolding close
     close-last l = rw (le-ltb (stepRound plan (suc j) .0) (rounds plan .0) l)
 
@@ -253,7 +252,7 @@ module _ (s : Setting) (a : Adversary) (sound : Sound s) where
         let before = more-runs l last in
         let (x, y) = next-run plan t q (sound .accepted) position last before in
         rw (close-last ge, ne-eqb (t .0) (runs plan .0) (omega arith))
-        (same-record (detectLevels plan i (gather ready .cells) (rounds plan .0 - 1) (gather ready .detected))
+        (same-record (detectLevels plan i t q (gather ready .cells) (rounds plan .0 - 1) (gather ready .detected))
         (sym (ap (λ z. stepRun plan (suc z)) (sym number) ∙ x)) (sym (ap (λ z. stepRound plan (suc z)) (sym number) ∙ y))))
 
     pub standing-next : suc j < steps plan → Standing (suc j) i

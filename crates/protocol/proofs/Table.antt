@@ -2,28 +2,33 @@
 -- Assumes nothing.
 use mathlib.Core.Path.{_≡_, refl}
 use mathlib.Core.Bool.{true}
+use Rattle.codec.specs.Codec.{encode, decode, numberAt}
 use Rattle.sets.specs.Search.{first, any, count}
 use Rattle.sets.specs.Sets.{member, union, insert, within, boards, setOf, size}
 use Rattle.sets.specs.Only.{only, same}
 use Rattle.sets.specs.Structure.{holder, place, isSome, tolerated}
-use Rattle.plan.specs.Cover.{strays, covers, thirdPlace, secondPlace, firstPlace, covered, places}
-use Rattle.plan.specs.Outcome.{refusal, verdict}
-use Rattle.plan.specs.Schedule.{listed, largest, height, isCut, rounds, ceilDiv, runs, firstRound, hasRound, steps, step, stepRun, stepRound}
-use Rattle.plan.specs.Calls.{covering, admitting, andThen, isDepth, judgeSettings, planning, voidPlan, planOn, planned, judged}
+use Rattle.admission.specs.Cover.{strays, covers, thirdPlace, secondPlace, firstPlace, covered, places}
+use Rattle.refusals.specs.Outcome.{refusal, verdict, andThen}
+use Rattle.plan.specs.Listed.{listed}
+use Rattle.schedule.specs.Schedule.{largest, height, isCut, rounds, ceilDiv, runs, firstRound, hasRound, steps, step, stepRun, stepRound}
+use Rattle.admission.specs.Calls.{covering, admitting}
+use Rattle.plan.specs.Calls.{isDepth, judgeSettings, planning, voidPlan, planOn, planned, judged}
 use Rattle.tree.specs.Labels.{occurs, mask, last, childrenFrom, children, childrenOf, labels, labelAt}
 use Rattle.tree.specs.Places.{levelSize, levelStart, cellCount, sizeWithin, startWithin, countWithin, ordinal, rank, outsideBelow, childIndex, place as place′}
 use Rattle.tree.specs.Cells.{blank, cellAt, store}
 use Rattle.plan.specs.Values.{default, value}
 use Rattle.protocol.specs.Nodes.{read, filter, internal, nodes, inner, carried, sent, due, frame}
-use Rattle.protocol.specs.Detection.{vote, tabulate, resolve, resolveRoot, explained, byCell, byResolving, join, passes, maskBoard, detect1, detectAll1, detect2, detectAll2, detectLevels}
+use Rattle.protocol.specs.Listing.{join}
+use Rattle.protocol.specs.Detection.{vote, tabulate, resolve, resolveRoot, explained, byCell, byResolving, passes, maskBoard, detect1, detectAll1, detect2, detectAll2, detectLevels}
 use Rattle.protocol.specs.Records.{runEnded}
 use Rattle.protocol.specs.Rounds.{fill, counted, receive, fillMissing, copyOwn, gather, rootOnly, nextRound, convert, close}
-use Rattle.protocol.specs.Calls.{isTaken, judgeBoard, judgeCells, goodMarks, goodDecision, goodRecord, judgeRecord, judgeOpen, freshRecord, voidRecord, judgeBeginning, beginning, dealing, judgeReceiving, receiving, frameOf, judgeSending, sending, closedValues, closing, deciding}
+use Rattle.protocol.specs.Calls.{isTaken, judgeBoard, judgeCells, goodMarks, goodDecision, goodRecord, judgeRecord, judgeOpen, freshRecord, voidRecord, judgeBeginning, beginning, dealing, judgeReceiving, taking, receiving, frameOf, wireOf, judgeSending, sending, closedValues, closing, deciding}
 use Rattle.protocol.specs.Session.{table, nobody, boardAt, begun, hears, handIn, hearAll, session, at}
-use Rattle.protocol.specs.Sheet.{prepend, lines, digit, joinByte, bytesOf, lineBytes, headOf, headPlan, judgeHead, frameLine, earlier, rises, goodFrame, wrongAt, refusedReading, addFrame, readFrames, readHead, readLines, reading}
-use Rattle.protocol.specs.Playing.{findFrame, sheetAdversary, part, replacePart, setting, finalBoards, hexDigit, hexByte, printed, boardLine, printBoards, finalCells, refusedPlay, playHead, playing, refusalText, benchPrints}
+use Rattle.protocol.specs.Sheet.{prepend, lines, lineBytes, headOf, headPlan, judgeHead, frameLine, earlier, rises, goodFrame, wrongAt, refusedReading, addFrame, readFrames, readHead, readLines, reading}
+use Rattle.hex.specs.Hex.{digit, joinByte, bytesOf, hexDigit, hexByte, hexBytes}
+use Rattle.protocol.specs.Playing.{findFrame, decoded, sheetAdversary, part, replacePart, setting, finalBoards, hexValue, printed, boardLine, printBoards, finalCells, refusedPlay, playHead, playing, refusalText, benchPrints}
 use Rattle.protocol.specs.Cases.{sameList, nodeCount, lentCells, lentOut, played, isAccepted, holds, allHold, example1, head7, head9, dealerLine, liar9, printedLine, decidedPart, alone, table as table′}
 
 pub table-holds : allHold table′ ≡ true
-unfolding first any count member union insert within boards setOf size holder place isSome tolerated strays covers thirdPlace secondPlace firstPlace covered places refusal verdict listed largest height isCut rounds ceilDiv runs firstRound hasRound steps step stepRun stepRound covering admitting andThen isDepth judgeSettings planning voidPlan planOn planned judged occurs mask last childrenFrom children childrenOf labels labelAt levelSize levelStart cellCount sizeWithin startWithin countWithin ordinal rank outsideBelow childIndex place′ blank cellAt store default value read filter internal nodes inner carried sent due frame only same vote tabulate resolve resolveRoot explained byCell byResolving join passes maskBoard detect1 detectAll1 detect2 detectAll2 detectLevels fill counted receive fillMissing copyOwn gather rootOnly nextRound convert runEnded close isTaken judgeBoard judgeCells goodMarks goodDecision goodRecord judgeRecord judgeOpen freshRecord voidRecord judgeBeginning beginning dealing judgeReceiving receiving frameOf judgeSending sending closedValues closing deciding table nobody boardAt begun hears handIn hearAll session at prepend lines digit joinByte bytesOf lineBytes headOf headPlan judgeHead frameLine earlier rises goodFrame wrongAt refusedReading addFrame readFrames readHead readLines reading findFrame sheetAdversary part replacePart setting finalBoards hexDigit hexByte printed boardLine printBoards finalCells refusedPlay playHead playing refusalText benchPrints sameList nodeCount lentCells lentOut played isAccepted holds allHold example1 head7 head9 dealerLine liar9 printedLine decidedPart alone table′
+unfolding encode decode numberAt first any count member union insert within boards setOf size holder place isSome tolerated strays covers thirdPlace secondPlace firstPlace covered places refusal verdict listed largest height isCut rounds ceilDiv runs firstRound hasRound steps step stepRun stepRound covering admitting andThen isDepth judgeSettings planning voidPlan planOn planned judged occurs mask last childrenFrom children childrenOf labels labelAt levelSize levelStart cellCount sizeWithin startWithin countWithin ordinal rank outsideBelow childIndex place′ blank cellAt store default value read filter internal nodes inner carried sent due frame only same vote tabulate resolve resolveRoot explained byCell byResolving join passes maskBoard detect1 detectAll1 detect2 detectAll2 detectLevels fill counted receive fillMissing copyOwn gather rootOnly nextRound convert runEnded close isTaken judgeBoard judgeCells goodMarks goodDecision goodRecord judgeRecord judgeOpen freshRecord voidRecord judgeBeginning beginning dealing judgeReceiving taking receiving frameOf wireOf judgeSending sending closedValues closing deciding table nobody boardAt begun hears handIn hearAll session at prepend lines digit joinByte bytesOf lineBytes headOf headPlan judgeHead frameLine earlier rises goodFrame wrongAt refusedReading addFrame readFrames readHead readLines reading findFrame decoded sheetAdversary part replacePart setting finalBoards hexDigit hexByte hexBytes hexValue printed boardLine printBoards finalCells refusedPlay playHead playing refusalText benchPrints sameList nodeCount lentCells lentOut played isAccepted holds allHold example1 head7 head9 dealerLine liar9 printedLine decidedPart alone table′
 table-holds = refl

@@ -7,7 +7,7 @@ use mathlib.Core.List.{List}
 use lib.Dec.{eqb}
 use Rattle.sets.specs.Sets.{member}
 use Rattle.sets.proofs.Tests.{cases}
-use Rattle.plan.specs.Schedule.{runs}
+use Rattle.schedule.specs.Schedule.{runs}
 use Rattle.protocol.specs.declared.records.Record.{Record}
 use Rattle.protocol.specs.Nodes.{sent, due}
 use Rattle.protocol.specs.Detection.{Scan, resolveRoot}
@@ -25,12 +25,12 @@ pub taken-stays : (r : Record) (k : ℕ) (cells : List ℕ) → member k (r .tak
 unfolding fillMissing
 taken-stays r k cells m = cases (due (r .plan) k (r .board) (r .round)) (λ d. rw (d, m) refl) (λ d. rw d refl)
 
-module _ (r : Record) (s : Scan) where
+module _ (b : Board) (s : Scan) where
   -- A board decides as the last run ends, and on the root.
-  pub decides-last : convert r s .rec .decided ≡ eqb (r .run .0) (runs (r .plan) .0)
+  pub decides-last : convert b s .rec .decided ≡ eqb (b .rec .run .0) (runs (b .rec .plan) .0)
   unfolding convert runEnded
   decides-last = refl
 
-  pub decides-root : eqb (r .run .0) (runs (r .plan) .0) ≡ true → convert r s .rec .decision ≡ resolveRoot (r .plan) (r .board) (s .cells)
+  pub decides-root : eqb (b .rec .run .0) (runs (b .rec .plan) .0) ≡ true → convert b s .rec .decision ≡ resolveRoot (b .rec .plan) (b .rec .board) (s .cells)
   unfolding convert runEnded
   decides-root e = rw e refl

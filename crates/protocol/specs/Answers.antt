@@ -1,6 +1,6 @@
 -- What each answer says in the terms of 01: its number, 0 for a call that is taken, and the values beside it.
 use mathlib.Core.List.{[], _∷_}
-use Rattle.plan.specs.Outcome.{Outcome, taken, refusal}
+use Rattle.refusals.specs.Outcome.{Outcome, taken, refusal}
 use Rattle.protocol.specs.declared.answers.Dealt.{Dealt}
 use Rattle.protocol.specs.declared.answers.Dealt.the-variants as D
 use Rattle.protocol.specs.declared.answers.Sent.{Sent}

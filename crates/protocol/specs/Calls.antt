@@ -3,19 +3,20 @@ use Prim.Native.Nat.{ℕ}
 use mathlib.Core.Bool.{Bool, false, not, _&&_, _||_, cond}
 use mathlib.Core.List.{List, [], _∷_, _++_}
 use lib.Dec.{eqb, leb, ltb}
-use lib.ListN.{length, drop, replicate}
+use lib.ListN.{length, drop}
+use Rattle.codec.specs.Codec.{encode, decode}
 use Rattle.sets.specs.Search.{any}
 use Rattle.sets.specs.Sets.{member, within, boards}
 use Rattle.plan.specs.declared.plan.Plan.{Plan}
-use Rattle.plan.specs.Schedule.{hasRound}
-use Rattle.plan.specs.Outcome.{Outcome, taken, refused}
-use Rattle.plan.specs.Calls.{andThen, judged, voidPlan}
+use Rattle.schedule.specs.Schedule.{hasRound}
+use Rattle.refusals.specs.Outcome.{Outcome, taken, refused, andThen}
+use Rattle.plan.specs.Calls.{judged, voidPlan}
 use Rattle.tree.specs.Places.{cellCount}
-use Rattle.tree.specs.Cells.{blank}
 use Rattle.protocol.specs.declared.records.Record.{Record}
+use Rattle.protocol.specs.Listing.{asSet}
 use Rattle.protocol.specs.Records.{standingAt}
 use Rattle.protocol.specs.Nodes.{due, frame}
-use Rattle.protocol.specs.Rounds.{Board, receive, close}
+use Rattle.protocol.specs.Rounds.{boardWith, Board, receive, cleared, close}
 
 -- What a call on a board leaves: the answer, and the board.
 pub record Result : Type 0 where
@@ -42,7 +43,7 @@ judgeCells p cells = cond (ltb (length cells) (cellCount (p .n))) (refused 11) (
 -- 12: "a record whose plan or board would meet 1 to 10, whose run or round the plan lacks, that lists or marks board n or above,
 -- or that is decided with a decision not below m".
 unfoldable pub goodMarks : Record → Bool
-goodMarks r = within (r .detected) (boards (r .plan .n)) && within (r .taken) (boards (r .plan .n))
+goodMarks r = within (asSet (r .detected)) (boards (r .plan .n)) && within (r .taken) (boards (r .plan .n))
 
 unfoldable pub goodDecision : Record → Bool
 goodDecision r = not (r .decided) || ltb (r .decision) (r .plan .span)
@@ -85,13 +86,13 @@ judgeBeginning p i cells = andThen (judged p) (andThen (judgeBoard p i) (judgeCe
 unfoldable pub beginning : Plan → ℕ → List ℕ → Result
 beginning p i cells =
     let answer = judgeBeginning p i cells in
-    let begun : Board = record { rec = freshRecord p i; cells = replicate (cellCount (p .n)) blank ++ drop (cellCount (p .n)) cells } in
-    let kept : Board = record { rec = voidRecord; cells = cells } in
+    let begun : Board = boardWith (freshRecord p i) (cleared (p .n) cells) in
+    let kept : Board = boardWith voidRecord cells in
     record { answer = answer; board = cond (isTaken answer) begun kept }
 
--- 01, 'Dealer's frame': 1 to 8, then 18. The frame is one byte.
+-- 01, 'Dealer's frame': 1 to 8, then 18. The frame has one value.
 unfoldable pub dealing : Plan → ℕ → Outcome
-dealing p v = andThen (judged p) (cond (leb (p .span) v) (refused 18) (taken (v ∷ [])))
+dealing p v = andThen (judged p) (cond (leb (p .span) v) (refused 18) (taken (encode (v ∷ []))))
 
 -- 01, 'Handing in': 12, 11, 13, 14, 15.
 unfoldable pub judgeReceiving : Board → ℕ → Outcome
@@ -100,21 +101,29 @@ judgeReceiving b q =
     andThen (judgeOpen b)
     (cond (due (r .plan) q (r .board) (r .round)) (cond (member q (r .taken)) (refused 15) (taken [])) (refused 14))
 
-unfoldable pub receiving : Board → ℕ → List ℕ → Result
-receiving b q f =
+-- The values of board q's frame.
+unfoldable pub taking : Board → ℕ → List ℕ → Result
+taking b q vs =
     let answer = judgeReceiving b q in
-    let next = receive q f b in
+    let next = receive q vs b in
     record { answer = answer; board = cond (isTaken answer) next b }
 
--- The frame that a board sends in its round.
+-- Its bytes.
+unfoldable pub receiving : Board → ℕ → List ℕ → Result
+receiving b q f = taking b q (decode f)
+
+-- The frame that a board sends in its round: its values, and its bytes.
 unfoldable pub frameOf : Board → List ℕ
 frameOf b = let r = b .rec in frame (r .plan) (r .board) (r .board) (r .round) (b .cells)
+
+unfoldable pub wireOf : Board → List ℕ
+wireOf b = encode (frameOf b)
 
 -- 01, 'Writing a frame': 12, 11, 13, then 16, 17. Output past what is written is not touched.
 unfoldable pub judgeSending : Board → List ℕ → Outcome
 judgeSending b out =
     let r = b .rec in
-    let f = frameOf b in
+    let f = wireOf b in
     andThen (judgeOpen b)
     (cond (any (λ i. due (r .plan) (r .board) i (r .round)) (r .plan .n))
     (cond (ltb (length out) (length f)) (refused 17) (taken (length f ∷ [])))
@@ -123,7 +132,7 @@ judgeSending b out =
 unfoldable pub sending : Board → List ℕ → Output
 sending b out =
     let answer = judgeSending b out in
-    let written = frameOf b ++ drop (length (frameOf b)) out in
+    let written = wireOf b ++ drop (length (wireOf b)) out in
     record { answer = answer; out = cond (isTaken answer) written out }
 
 -- 01, 'Closing': 12, 11, 13. It answers the run and the round that are open now, or that the board has decided.

@@ -5,8 +5,9 @@ use mathlib.Core.List.{List, [], _∷_, _++_}
 use lib.Dec.{eqb}
 use lib.ListN.{length, getD, replicate}
 use Rattle.plan.specs.declared.plan.Plan.{Plan}
-use Rattle.plan.specs.Schedule.{height, rounds, runs, steps}
-use Rattle.plan.specs.Calls.{admitting, planning, planned}
+use Rattle.schedule.specs.Schedule.{height, rounds, runs, steps}
+use Rattle.admission.specs.Calls.{admitting}
+use Rattle.plan.specs.Calls.{planning, planned}
 use Rattle.protocol.specs.Limits.{outputNeeded, cellsNeeded}
 use Rattle.protocol.specs.Nodes.{nodes}
 use Rattle.protocol.specs.Calls.{beginning, receiving}

@@ -6,8 +6,9 @@ use mathlib.Core.Bool.{true, false}
 use lib.ListN.{getD}
 use Rattle.sets.specs.Search.{count}
 use Rattle.sets.specs.Sets.{member, within}
-use Rattle.plan.specs.Schedule.{depthOf, isCut, rounds, runs, steps, step}
+use Rattle.schedule.specs.Schedule.{depthOf, isCut, rounds, runs, steps, step}
 use Rattle.tree.specs.Cells.{blank}
+use Rattle.protocol.specs.Listing.{asSet}
 use Rattle.protocol.specs.Rounds.{Board}
 use Rattle.protocol.specs.Session.{Adversary, Setting, at}
 use Rattle.protocol.specs.Lists.{keeper, Sound, onEvery}
@@ -26,7 +27,7 @@ listEnded s a t i = ended s a t i .rec .detected
 
 pub record SessionAgreement (s : Setting) (a : Adversary) : Type 0 where
   -- every list of a board outside F lies within F, after every step
-  pub sound : (j i : ℕ) → j ≤ steps (s .plan) → keeper s i ≡ true → within (at s a j i .rec .detected) (s .faulty) ≡ true
+  pub sound : (j i : ℕ) → j ≤ steps (s .plan) → keeper s i ≡ true → within (asSet (at s a j i .rec .detected)) (s .faulty) ≡ true
   -- after the last step all boards outside F that keep cells have decided
   pub decided : (i : ℕ) → keeper s i ≡ true → at s a (steps (s .plan)) i .rec .decided ≡ true
   -- one value

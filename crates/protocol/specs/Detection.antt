@@ -7,13 +7,18 @@ use lib.Dec.{eqb}
 use lib.ListN.{length, getD}
 use Rattle.sets.specs.Search.{any}
 use Rattle.sets.specs.Only.{only, same}
-use Rattle.sets.specs.Sets.{member, insert, setOf}
+use Rattle.sets.specs.Sets.{member, setOf}
 use Rattle.sets.specs.Structure.{tolerated}
 use Rattle.plan.specs.declared.plan.Plan.{Plan}
-use Rattle.plan.specs.Schedule.{listed, rounds}
+use Rattle.plan.specs.Listed.{listed}
+use Rattle.schedule.specs.declared.rounds.Run.{Run}
+use Rattle.schedule.specs.declared.rounds.Round.{Round}
+use Rattle.schedule.specs.Schedule.{rounds}
 use Rattle.tree.specs.Labels.{Label, occurs, last}
 use Rattle.tree.specs.Cells.{store}
 use Rattle.plan.specs.Values.{default}
+use Rattle.protocol.specs.declared.records.Rule.the-variants as Rule
+use Rattle.protocol.specs.Listing.{join, asSet}
 use Rattle.protocol.specs.Nodes.{read, internal, nodes, inner}
 
 -- 01: "the only value v below m for which the children resolved to v form a set that is not tolerated"; f has what each child
@@ -43,7 +48,7 @@ resolveRoot p i cells = Option·getD (resolve p i cells (rounds p .0 - 1) (p .de
 -- 01: a value v below m makes "{children whose cell is not v} ∪ L tolerated"; f has what each child of α is worth.
 unfoldable pub explained : Plan → Label → (ℕ → Option ℕ) → ℕ → Bool
 explained p α f detected =
-    any (λ v. tolerated (listed p) (setOf (λ c. (not (occurs c α) && not (same (f c) (some v))) || member c detected) (p .n))) (p .span)
+    any (λ v. tolerated (listed p) (setOf (λ c. (not (occurs c α) && not (same (f c) (some v))) || member c (asSet detected)) (p .n))) (p .span)
 
 -- What child c of α is worth by its cell, and by what it resolves to.
 unfoldable pub byCell : Plan → List ℕ → Label → ℕ → Option ℕ
@@ -52,13 +57,9 @@ byCell p cells α c = some (read p cells (c ∷ α))
 unfoldable pub byResolving : Plan → ℕ → List ℕ → Label → ℕ → Option ℕ
 byResolving p i cells α c = resolve p i cells (rounds p .0 - suc (length α)) (c ∷ α)
 
--- Board r joins the list.
-unfoldable pub join : ℕ → ℕ → ℕ
-join r detected = insert r detected
-
 -- Does the rule leave the list as it is at node α? 01: "If r is not in L and no value v ..., r joins L".
 unfoldable pub passes : Plan → Label → (ℕ → Option ℕ) → ℕ → Bool
-passes p α f detected = member (last α) detected || explained p α f detected
+passes p α f detected = member (last α) (asSet detected) || explained p α f detected
 
 -- The list and the cells, as a rule goes over the nodes.
 pub record Scan : Type 0 where
@@ -70,30 +71,31 @@ unfoldable pub maskBoard : Plan → ℕ → List Label → List ℕ → List ℕ
 maskBoard p r [] cells = cells
 maskBoard p r (γ ∷ γs) cells = maskBoard p r γs (cond (eqb (last γ) r) (store (p .n) cells γ (default p)) cells)
 
--- 003: FD1; 01: rule G. At one internal node of board i: r joins, "and every level-k cell whose node ends in r becomes 0 before
+-- 003: FD1; 01: rule G. At one internal node of board i, in run t and round k: r joins, "and every level-k cell whose node ends in r becomes 0 before
 -- the next node is looked at".
-unfoldable pub detect1 : Plan → ℕ → Label → Scan → Scan
-detect1 p i α s =
+unfoldable pub detect1 : Plan → ℕ → Run → Round → Label → Scan → Scan
+detect1 p i t k α s =
     let joined : Scan = record {
-      detected = join (last α) (s .detected);
+      detected = join (last α) t k Rule.G (length α) (s .detected);
       cells = maskBoard p (last α) (nodes p i (suc (length α))) (s .cells);
     } in
     cond (passes p α (byCell p (s .cells) α) (s .detected)) s joined
 
-unfoldable pub detectAll1 : Plan → ℕ → List Label → Scan → Scan
-detectAll1 p i [] s = s
-detectAll1 p i (α ∷ αs) s = detectAll1 p i αs (detect1 p i α s)
+unfoldable pub detectAll1 : Plan → ℕ → Run → Round → List Label → Scan → Scan
+detectAll1 p i t k [] s = s
+detectAll1 p i t k (α ∷ αs) s = detectAll1 p i t k αs (detect1 p i t k α s)
 
--- 003: FD2; 01: rule C, "rule G on resolved children, without changing cells".
-unfoldable pub detect2 : Plan → ℕ → List ℕ → Label → ℕ → ℕ
-detect2 p i cells α detected =
-    cond (passes p α (byResolving p i cells α) detected) detected (join (last α) detected)
+-- 003: FD2; 01: rule C, "rule G on resolved children, without changing cells". In run t and round k, the last.
+unfoldable pub detect2 : Plan → ℕ → Run → Round → List ℕ → Label → ℕ → ℕ
+detect2 p i t k cells α detected =
+    cond (passes p α (byResolving p i cells α) detected) detected (join (last α) t k Rule.C (length α) detected)
 
-unfoldable pub detectAll2 : Plan → ℕ → List ℕ → List Label → ℕ → ℕ
-detectAll2 p i cells [] detected = detected
-detectAll2 p i cells (α ∷ αs) detected = detectAll2 p i cells αs (detect2 p i cells α detected)
+unfoldable pub detectAll2 : Plan → ℕ → Run → Round → List ℕ → List Label → ℕ → ℕ
+detectAll2 p i t k cells [] detected = detected
+detectAll2 p i t k cells (α ∷ αs) detected = detectAll2 p i t k cells αs (detect2 p i t k cells α detected)
 
--- 01: "over levels R − 1 down to 1, each in cell order": levels k down to 1.
-unfoldable pub detectLevels : Plan → ℕ → List ℕ → ℕ → ℕ → ℕ
-detectLevels p i cells zero detected = detected
-detectLevels p i cells (suc k) detected = detectLevels p i cells k (detectAll2 p i cells (inner p i (suc k)) detected)
+-- 01: "over levels R − 1 down to 1, each in cell order": the level given and those below it.
+unfoldable pub detectLevels : Plan → ℕ → Run → Round → List ℕ → ℕ → ℕ → ℕ
+detectLevels p i t k cells zero detected = detected
+detectLevels p i t k cells (suc level) detected =
+    detectLevels p i t k cells level (detectAll2 p i t k cells (inner p i (suc level)) detected)

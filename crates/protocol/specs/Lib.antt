@@ -1,6 +1,7 @@
 pub mod Limits
 pub mod Answers
 pub mod Records
+pub mod Listing
 pub mod Nodes
 pub mod Detection
 pub mod Rounds

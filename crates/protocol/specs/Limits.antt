@@ -1,21 +1,30 @@
 -- The limits of sheets and frames.
-use Prim.Native.Nat.{ℕ}
+use Prim.Native.Nat.{ℕ, _+_, _*_}
+use Rattle.codec.specs.Codec.{width}
 
 -- 01: "20: above 65,536 bytes."
 abbrev pub sheetMost : ℕ
 sheetMost = 65536
 
--- 01: "17: output under 49 bytes."
+-- The characters of a printed line: board, decision, list, two digits a byte, and a newline.
+abbrev pub lineLength : ℕ
+lineLength = 2 + 2 * width + 2 + 1
+
+-- 01: "17: output under 49 bytes": a line for each of seven boards.
 abbrev pub outputNeeded : ℕ
-outputNeeded = 49
+outputNeeded = 7 * lineLength
 
--- 01: "11: cells under 13,699."
+-- The cells of a board in a plan of seven.
+abbrev pub partMost : ℕ
+partMost = 1957
+
+-- 01: "11: cells under 13,699": a part for each of seven boards.
 abbrev pub cellsNeeded : ℕ
-cellsNeeded = 13699
+cellsNeeded = 7 * partMost
 
--- The most values of a frame (proofs/Few), and room for one more, so that a longer frame is told from it.
+-- The most values of a frame (proofs/Few), and room for their bytes and one more, so that a longer frame is told from it.
 abbrev pub frameMost : ℕ
 frameMost = 120
 
 abbrev pub frameRoom : ℕ
-frameRoom = 121
+frameRoom = frameMost * width + 1

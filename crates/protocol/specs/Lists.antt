@@ -9,11 +9,13 @@ use lib.ListN.{length, getD, take}
 use Rattle.sets.specs.Search.{any, count}
 use Rattle.sets.specs.Sets.{member, within}
 use Rattle.sets.specs.Structure.{tolerated}
-use Rattle.plan.specs.Schedule.{depthOf, listed, isCut, rounds, steps}
-use Rattle.plan.specs.Outcome.{Outcome, taken}
+use Rattle.plan.specs.Listed.{listed}
+use Rattle.schedule.specs.Schedule.{depthOf, isCut, rounds, steps}
+use Rattle.refusals.specs.Outcome.{Outcome, taken}
 use Rattle.plan.specs.Calls.{judged}
 use Rattle.tree.specs.Places.{cellCount}
 use Rattle.tree.specs.Cells.{blank}
+use Rattle.protocol.specs.Listing.{asSet}
 use Rattle.protocol.specs.Nodes.{due}
 use Rattle.protocol.specs.Rounds.{Board}
 use Rattle.protocol.specs.Calls.{dealing, receiving, sending, closing, deciding}
@@ -34,8 +36,8 @@ caller (closes i) = i
 caller (decides i) = i
 
 -- What a call does to its board, and what it answers: literally the definitions of the calls, which stand in the `ensures` of the public
--- functions: `receiving` of exchange::receiving::receive, `sending` of exchange::sending::send, `closing` of closing::closing::close,
--- `deciding` of closing::deciding::decide. A board begins by `beginning` (beginning::beginning::begin), and the dealer's frame is `dealing`
+-- functions: `receiving` of receiving::receiving::receive, `sending` of sending::sending::send, `closing` of closing::closing::close,
+-- `deciding` of deciding::deciding::decide. A board begins by `beginning` (beginning::beginning::begin), and the dealer's frame is `dealing`
 -- (beginning::dealing::deal).
 unfoldable pub leaves : Call → Board → Board
 leaves (receives i q f) b = receiving b q f .board
@@ -171,7 +173,7 @@ list s i before = closing (state s before i) .board .rec .detected
 
 -- Does board r stand on the list of every board outside F that keeps cells? `lists` has each board's list.
 unfoldable pub onEvery : Setting → (ℕ → ℕ) → ℕ → Bool
-onEvery s lists r = not (any (λ i. keeper s i && not (member r (lists i))) (s .plan .n))
+onEvery s lists r = not (any (λ i. keeper s i && not (member r (asSet (lists i)))) (s .plan .n))
 
 -- Board i's list after the calls.
 unfoldable pub listAfter : Setting → List Call → ℕ → ℕ
@@ -180,10 +182,10 @@ listAfter s calls i = state s calls i .rec .detected
 -- 01: "After every fair list, for every such F, whatever its boards send".
 pub record Agreement (s : Setting) (calls : List Call) : Type 0 where
   -- 01: "every list of a board outside F lies within F". The user: "no board outside F lists one outside F".
-  pub sound : (i : ℕ) → keeper s i ≡ true → within (listAfter s calls i) (s .faulty) ≡ true
+  pub sound : (i : ℕ) → keeper s i ≡ true → within (asSet (listAfter s calls i)) (s .faulty) ≡ true
   -- lists only grow along the list of calls
   pub grows : (i : ℕ) (before now : List Call) → keeper s i ≡ true → Prefix before now → Prefix now calls
-      → within (listAfter s before i) (listAfter s now i) ≡ true
+      → within (asSet (listAfter s before i)) (asSet (listAfter s now i)) ≡ true
   -- 01: "a board outside F that keeps cells is decided exactly when as many of its closings were taken as the plan has rounds over all runs"
   pub decided : (i : ℕ) → keeper s i ≡ true → (state s calls i .rec .decided ≡ true) ↔ PastLast s calls i
   -- "and until then none of its closings is turned down"

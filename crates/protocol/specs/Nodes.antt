@@ -6,9 +6,10 @@ use lib.Dec.{eqb, ltb}
 use lib.ListN.{length}
 use Rattle.sets.specs.Structure.{tolerated}
 use Rattle.plan.specs.declared.plan.Plan.{Plan}
-use Rattle.plan.specs.declared.schedule.Round.{Round}
-use Rattle.plan.specs.Schedule.{listed, rounds}
+use Rattle.plan.specs.Listed.{listed}
 use Rattle.plan.specs.Values.{value}
+use Rattle.schedule.specs.declared.rounds.Round.{Round}
+use Rattle.schedule.specs.Schedule.{rounds}
 use Rattle.tree.specs.Labels.{Label, occurs, mask, childrenOf}
 use Rattle.tree.specs.Cells.{cellAt}
 

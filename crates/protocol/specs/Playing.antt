@@ -5,26 +5,34 @@ use mathlib.Core.List.{List, [], _∷_, _++_}
 use mathlib.Core.Option.{Option, some, none}
 use lib.Dec.{eqb, ltb}
 use lib.ListN.{length, getD, take, drop}
+use Rattle.codec.specs.Codec.{encode, decode}
+use Rattle.hex.specs.Hex.{hexByte, hexBytes}
 use Rattle.sets.specs.Sets.{member}
-use Rattle.plan.specs.declared.schedule.Run.{Run}
-use Rattle.plan.specs.declared.schedule.Round.{Round}
-use Rattle.plan.specs.Schedule.{steps, stepRun, stepRound}
-use Rattle.plan.specs.Outcome.{Outcome, taken, refused}
+use Rattle.schedule.specs.declared.rounds.Run.{Run}
+use Rattle.schedule.specs.declared.rounds.Round.{Round}
+use Rattle.schedule.specs.Schedule.{steps, stepRun, stepRound}
+use Rattle.refusals.specs.Outcome.{Outcome, taken, refused}
 use Rattle.tree.specs.Places.{cellCount}
 use Rattle.protocol.specs.Limits.{sheetMost, outputNeeded, cellsNeeded}
+use Rattle.protocol.specs.Listing.{asSet}
 use Rattle.protocol.specs.Session.{Adversary, Setting, Boards, boardAt, session}
 use Rattle.protocol.specs.Sheet.{Head, Frame, headPlan, wrongAt, reading}
 
--- The values of the sheet's frame for a run, a round, a sender and a receiver, if it has one.
+-- The bytes of the sheet's frame for a run, a round, a sender and a receiver, if it has one.
 unfoldable pub findFrame : Run → Round → ℕ → ℕ → List Frame → Option (List ℕ)
 findFrame t k q i [] = none
 findFrame t k q i (f ∷ fs) =
     let rest = findFrame t k q i fs in
     cond ((eqb (f .run .0) (t .0) && eqb (f .round .0) (k .0)) && (eqb (f .sender) q && eqb (f .receiver) i)) (some (f .values)) rest
 
+-- The values of a frame's bytes, if there is one.
+unfoldable pub decoded : Option (List ℕ) → Option (List ℕ)
+decoded none = none
+decoded (some f) = some (decode f)
+
 -- What the faulty boards do: step j, from 0, is round number j + 1 over all runs.
 unfoldable pub sheetAdversary : Head → List Frame → Adversary
-sheetAdversary h fs i j q = let p = headPlan h in findFrame (stepRun p (suc j)) (stepRound p (suc j)) q i fs
+sheetAdversary h fs i j q = let p = headPlan h in decoded (findFrame (stepRun p (suc j)) (stepRound p (suc j)) q i fs)
 
 -- 01: "Board i's part starts at i times the cells for n".
 unfoldable pub part : ℕ → ℕ → List ℕ → List ℕ
@@ -40,23 +48,20 @@ setting h cells = record { plan = headPlan h; faulty = h .faulty; word = h .word
 unfoldable pub finalBoards : Head → List Frame → List ℕ → Boards
 finalBoards h fs cells = session (setting h cells) (sheetAdversary h fs) (steps (headPlan h))
 
--- A byte as two digits.
-unfoldable pub hexDigit : ℕ → ℕ
-hexDigit x = cond (ltb x 10) (48 + x) (55 + x)
-
-unfoldable pub hexByte : ℕ → List ℕ → List ℕ
-hexByte x rest = hexDigit (x / 16) ∷ hexDigit (x % 16) ∷ rest
+-- A value as the digits of its bytes.
+unfoldable pub hexValue : ℕ → List ℕ → List ℕ
+hexValue v rest = hexBytes (encode (v ∷ [])) rest
 
 -- 01: "prints for each board outside F, rising: board, decision, list as a set".
 unfoldable pub printed : ℕ → ℕ → ℕ → List ℕ → List ℕ
-printed i decision detected rest = hexByte i (hexByte decision (hexByte detected (10 ∷ rest)))
+printed i decision detected rest = hexByte i (hexValue decision (hexByte detected (10 ∷ rest)))
 
 -- The line of board i: the dealer's has its value and an empty list.
 unfoldable pub boardLine : Head → Boards → ℕ → List ℕ → List ℕ
 boardLine h w i rest =
     let b = boardAt w i in
     cond (member i (h .faulty)) rest
-    (cond (eqb i (h .dealer)) (printed i (h .word) 0 rest) (printed i (b .rec .decision) (b .rec .detected) rest))
+    (cond (eqb i (h .dealer)) (printed i (h .word) 0 rest) (printed i (b .rec .decision) (asSet (b .rec .detected)) rest))
 
 -- The lines of the boards i to i + k - 1.
 unfoldable pub printBoards : Head → Boards → ℕ → ℕ → List ℕ

@@ -1,18 +1,19 @@
 -- What happens to a board's record and cells in a round, when no call is turned down.
 use Prim.Native.Nat.{ℕ, zero, suc, _+_, _-_}
-use mathlib.Core.Bool.{false, not, _&&_, cond}
+use mathlib.Core.Bool.{not, _&&_, cond}
 use mathlib.Core.List.{List, [], _∷_, _++_}
 use lib.Dec.{eqb, ltb}
 use lib.ListN.{length, drop, replicate}
-use Rattle.sets.specs.Sets.{member, insert}
+use Rattle.sets.specs.Sets.{member}
 use Rattle.plan.specs.declared.plan.Plan.{Plan}
-use Rattle.plan.specs.declared.schedule.Round.{Round}
-use Rattle.plan.specs.Schedule.{rounds}
+use Rattle.schedule.specs.declared.rounds.Round.{Round}
+use Rattle.schedule.specs.Schedule.{rounds}
 use Rattle.tree.specs.Labels.{Label}
 use Rattle.tree.specs.Places.{cellCount}
 use Rattle.tree.specs.Cells.{blank, store}
 use Rattle.protocol.specs.declared.records.Record.{Record}
 use Rattle.plan.specs.Values.{default, value}
+use Rattle.protocol.specs.Listing.{asSet}
 use Rattle.protocol.specs.Records.{marked, advanced, runEnded}
 use Rattle.protocol.specs.Nodes.{inner, sent, due, frame}
 use Rattle.protocol.specs.Detection.{Scan, detectAll1, resolveRoot, detectLevels}
@@ -22,6 +23,13 @@ pub record Board : Type 0 where
   pub rec : Record
   pub cells : List ℕ
 
+-- The board with a record and cells, and a board with another record and other cells.
+abbrev pub boardWith : Record → List ℕ → Board
+boardWith r cells = record { rec = r; cells = cells }
+
+abbrev pub onto : Board → Record → List ℕ → Board
+onto b r cells = boardWith r cells
+
 -- 01: "the receiver stores each at that node's child q"; where values are lacking, the default.
 unfoldable pub fill : Plan → ℕ → List Label → List ℕ → List ℕ → List ℕ
 fill p q [] vs cells = cells
@@ -30,17 +38,14 @@ fill p q (α ∷ αs) (v ∷ vs) cells = fill p q αs vs (store (p .n) cells (q 
 
 -- 01: "A frame of another length, .. and a frame from a listed board all count as 0 throughout": such a frame has no values.
 unfoldable pub counted : ℕ → ℕ → List Label → List ℕ → List ℕ
-counted detected q αs f = cond (eqb (length f) (length αs) && not (member q detected)) f []
+counted detected q αs f = cond (eqb (length f) (length αs) && not (member q (asSet detected))) f []
 
 -- A frame of board q is taken.
 unfoldable pub receive : ℕ → List ℕ → Board → Board
 receive q f b =
     let r = b .rec in
     let αs = sent (r .plan) q (r .board) (r .round) in
-    record {
-      rec = marked q r;
-      cells = fill (r .plan) q αs (counted (r .detected) q αs f) (b .cells);
-    }
+    onto b (marked q r) (fill (r .plan) q αs (counted (r .detected) q αs f) (b .cells))
 
 -- 01: "due frames not handed in are stored so": of the boards below j, to board i in round k, where `taken` were handed in.
 unfoldable pub fillMissing : Plan → ℕ → Round → ℕ → ℕ → List ℕ → List ℕ
@@ -61,29 +66,34 @@ gather b =
     let p = r .plan in
     let i = r .board in
     let k = r .round in
-    detectAll1 p i (inner p i (k .0 - 1))
+    detectAll1 p i (r .run) k (inner p i (k .0 - 1))
     (record { detected = r .detected; cells = copyOwn p i k (fillMissing p i k (r .taken) (p .n) (b .cells)) })
 
 -- 01: "The resolved root becomes the root cell, all other cells FF". Surplus cells stay.
 unfoldable pub rootOnly : ℕ → ℕ → List ℕ → List ℕ
 rootOnly n root cells = (root ∷ replicate (cellCount n - 1) blank) ++ drop (cellCount n) cells
 
+-- The cells of a board that begins. 01: "A place with no value yet, or no node, holds FF". Surplus cells stay.
+abbrev pub cleared : ℕ → List ℕ → List ℕ
+cleared n cells = replicate (cellCount n) blank ++ drop (cellCount n) cells
+
 -- The next round of the same run.
-unfoldable pub nextRound : Record → Scan → Board
-nextRound r s = record { rec = advanced r (s .detected); cells = s .cells }
+unfoldable pub nextRound : Board → Scan → Board
+nextRound b s = onto b (advanced (b .rec) (s .detected)) (s .cells)
 
 -- 01: "Closing round R also converts".
-unfoldable pub convert : Record → Scan → Board
-convert r s =
+unfoldable pub convert : Board → Scan → Board
+convert b s =
+    let r = b .rec in
     let p = r .plan in
     let root = resolveRoot p (r .board) (s .cells) in
-    let detected = detectLevels p (r .board) (s .cells) (rounds p .0 - 1) (s .detected) in
-    record { rec = runEnded r detected root; cells = rootOnly (p .n) root (s .cells) }
+    let detected = detectLevels p (r .board) (r .run) (r .round) (s .cells) (rounds p .0 - 1) (s .detected) in
+    onto b (runEnded r detected root) (rootOnly (p .n) root (s .cells))
 
 -- A round is closed.
 unfoldable pub close : Board → Board
 close b =
     let s = gather b in
-    let next = nextRound (b .rec) s in
-    let ended = convert (b .rec) s in
+    let next = nextRound b s in
+    let ended = convert b s in
     cond (ltb (b .rec .round .0) (rounds (b .rec .plan) .0)) next ended

@@ -7,15 +7,15 @@ use lib.Dec.{eqb}
 use lib.ListN.{getD}
 use Rattle.sets.specs.Sets.{member}
 use Rattle.plan.specs.declared.plan.Plan.{Plan}
-use Rattle.protocol.specs.Rounds.{Board}
-use Rattle.protocol.specs.Calls.{voidRecord, beginning, receiving, frameOf, closing, dealing}
+use Rattle.protocol.specs.Rounds.{boardWith, Board}
+use Rattle.protocol.specs.Calls.{voidRecord, beginning, taking, frameOf, closing}
 
 -- f at the numbers i to i + k - 1.
 unfoldable pub table : {A : Type 0} → (ℕ → A) → ℕ → ℕ → List A
 table f i zero = []
 table f i (suc k) = f i ∷ table f (suc i) k
 
--- What a faulty board hands in: to board i in step j, from board q; nothing, or any bytes.
+-- What a faulty board hands in: to board i in step j, from board q; nothing, or any values.
 abbrev pub Adversary : Type 0
 Adversary = ℕ → ℕ → ℕ → Option (List ℕ)
 
@@ -31,7 +31,7 @@ abbrev pub Boards : Type 0
 Boards = List Board
 
 unfoldable pub nobody : Board
-nobody = record { rec = voidRecord; cells = [] }
+nobody = boardWith voidRecord []
 
 unfoldable pub boardAt : Boards → ℕ → Board
 boardAt w i = getD w i nobody
@@ -43,11 +43,11 @@ begun s i = beginning (s .plan) i (s .buffer i) .board
 unfoldable pub hears : Setting → Adversary → Boards → ℕ → ℕ → ℕ → Option (List ℕ)
 hears s a w i j q =
     cond (member q (s .faulty)) (a i j q)
-    (cond (eqb q (s .plan .dealer)) (some (dealing (s .plan) (s .word) .values)) (some (frameOf (boardAt w q))))
+    (cond (eqb q (s .plan .dealer)) (some (s .word ∷ [])) (some (frameOf (boardAt w q))))
 
 unfoldable pub handIn : ℕ → Option (List ℕ) → Board → Board
 handIn q none b = b
-handIn q (some f) b = receiving b q f .board
+handIn q (some vs) b = taking b q vs .board
 
 -- Board i with what it hears from the boards below k.
 unfoldable pub hearAll : Setting → Adversary → Boards → ℕ → ℕ → ℕ → Board

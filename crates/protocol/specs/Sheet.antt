@@ -1,19 +1,21 @@
 -- A sheet as text: lines, the head, the frames, and the number and line of the first thing that is wrong.
-use Prim.Native.Nat.{ℕ, suc, _+_, _-_, _*_}
+use Prim.Native.Nat.{ℕ, suc, _+_, _-_}
 use mathlib.Core.Bool.{Bool, true, false, not, _&&_, _||_, cond}
 use mathlib.Core.List.{List, [], _∷_}
 use mathlib.Core.Option.{Option, some, none}
 use lib.Dec.{eqb, leb, ltb}
 use lib.ListN.{length, getD, take, drop}
+use Rattle.codec.specs.Codec.{width, numberAt}
+use Rattle.hex.specs.Hex.{bytesOf}
 use Rattle.sets.specs.Sets.{member, within, boards}
 use Rattle.sets.specs.Structure.{tolerated}
 use Rattle.plan.specs.declared.plan.Plan.{Plan}
 use Rattle.plan.specs.declared.plan.Settings.{Settings}
-use Rattle.plan.specs.declared.schedule.Run.{Run}
-use Rattle.plan.specs.declared.schedule.Round.{Round}
-use Rattle.plan.specs.Schedule.{hasRound}
-use Rattle.plan.specs.Outcome.{Outcome, taken, refused}
-use Rattle.plan.specs.Calls.{andThen, planning, planned}
+use Rattle.schedule.specs.declared.rounds.Run.{Run}
+use Rattle.schedule.specs.declared.rounds.Round.{Round}
+use Rattle.schedule.specs.Schedule.{hasRound}
+use Rattle.refusals.specs.Outcome.{Outcome, taken, refused, andThen}
+use Rattle.plan.specs.Calls.{planning, planned}
 use Rattle.protocol.specs.Nodes.{due}
 
 -- A line, and whether a newline ends it.
@@ -33,22 +35,6 @@ lines (c ∷ cs) =
     let opened : List Line = record { text = []; ended = true } ∷ rest in
     cond (eqb c 10) opened (prepend c rest)
 
--- 01: "uppercase hexadecimal, two digits a byte".
-unfoldable pub digit : ℕ → Option ℕ
-digit c = cond (leb 48 c && leb c 57) (some (c - 48)) (cond (leb 65 c && leb c 70) (some (c - 55)) none)
-
-unfoldable pub joinByte : Option ℕ → Option ℕ → Option (List ℕ) → Option (List ℕ)
-joinByte none lo rest = none
-joinByte (some h) none rest = none
-joinByte (some h) (some l) none = none
-joinByte (some h) (some l) (some bytes) = some ((h * 16 + l) ∷ bytes)
-
--- The bytes of a line's digits; none for another character or an odd digit count.
-unfoldable pub bytesOf : List ℕ → Option (List ℕ)
-bytesOf [] = some []
-bytesOf (c ∷ []) = none
-bytesOf (c ∷ (e ∷ cs)) = joinByte (digit c) (digit e) (bytesOf cs)
-
 -- Number 21: the bytes of a line, none if it applies.
 unfoldable pub lineBytes : Line → Option (List ℕ)
 lineBytes l = let bytes = bytesOf (l .text) in cond (l .ended) bytes none
@@ -64,18 +50,41 @@ pub record Head : Type 0 where
   pub sets : List ℕ
   pub faulty : ℕ
 
+-- Where each stands; m and the dealer's value have a value's bytes, the others one. n stands at 0.
+abbrev pub spanPlace : ℕ
+spanPlace = 1
+
+abbrev pub dealerPlace : ℕ
+dealerPlace = spanPlace + width
+
+abbrev pub depthPlace : ℕ
+depthPlace = dealerPlace + 1
+
+abbrev pub wordPlace : ℕ
+wordPlace = depthPlace + 1
+
+abbrev pub countPlace : ℕ
+countPlace = wordPlace + width
+
+abbrev pub setsPlace : ℕ
+setsPlace = countPlace + 1
+
+-- The bytes of a head with s sets.
+abbrev pub headLength : ℕ → ℕ
+headLength s = setsPlace + 1 + s
+
 unfoldable pub headOf : List ℕ → Head
 headOf bytes =
-    let s = getD bytes 5 0 in
+    let s = getD bytes countPlace 0 in
     record {
       n = getD bytes 0 0;
-      span = getD bytes 1 0;
-      dealer = getD bytes 2 0;
-      depth = getD bytes 3 0;
-      word = getD bytes 4 0;
+      span = numberAt bytes spanPlace;
+      dealer = getD bytes dealerPlace 0;
+      depth = getD bytes depthPlace 0;
+      word = numberAt bytes wordPlace;
       count = s;
-      sets = take s (drop 6 bytes);
-      faulty = getD bytes (6 + s) 0;
+      sets = take s (drop setsPlace bytes);
+      faulty = getD bytes (setsPlace + s) 0;
     }
 
 -- The settings that it names.
@@ -91,10 +100,10 @@ judgeHead bytes =
     let h = headOf bytes in
     let word = cond (leb (h .span) (h .word)) (refused 18) (taken []) in
     let faulty = cond (within (h .faulty) (boards (h .n)) && tolerated (h .sets) (h .faulty)) (taken []) (refused 23) in
-    cond (ltb (length bytes) 7 || not (eqb (length bytes) (7 + h .count))) (refused 22)
+    cond (ltb (length bytes) (headLength 0) || not (eqb (length bytes) (headLength (h .count)))) (refused 22)
     (andThen (planning (h .n) (h .count) (h .sets) (headSettings h)) (andThen word faulty))
 
--- 01: "Then one frame a line: run, round, sender, receiver, values".
+-- 01: "Then one frame a line: run, round, sender, receiver, values". The values are kept as their bytes.
 pub record Frame : Type 0 where
   pub run : Run
   pub round : Round

@@ -1,9 +1,9 @@
 // The answers of a board's calls. specs/Answers.antt sets out what each says.
 use crate::records::Record;
-use plan::refusal::Refusal;
-use plan::refusal::Verdict;
-use plan::schedule::Round;
-use plan::schedule::Run;
+use refusals::refusal::Refusal;
+use refusals::refusal::Verdict;
+use schedule::rounds::Round;
+use schedule::rounds::Run;
 
 // Beginning a board: the answer, and the record; beside a refusal the void record.
 pub struct Begun {
@@ -44,7 +44,7 @@ pub struct Closed {
 
 // Reading the decision.
 pub enum Decision {
-    Value(u8),
+    Value(codec::value::Value),
     Refused(Refusal),
 }
 

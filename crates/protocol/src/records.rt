@@ -1,7 +1,14 @@
 // The record of a board.
+use codec::value::Value;
 use plan::plan::Plan;
-use plan::schedule::Round;
-use plan::schedule::Run;
+use schedule::rounds::Round;
+use schedule::rounds::Run;
+
+// The rule by which a board was listed: rule G, 003's FD1, and rule C, its FD2.
+pub enum Rule {
+    G,
+    C,
+}
 
 pub struct Record {
     pub plan: Plan,
@@ -16,5 +23,5 @@ pub struct Record {
     pub taken: u8,
     pub decided: bool,
     // 0 while it is not decided.
-    pub decision: u8,
+    pub decision: Value,
 }

@@ -12,12 +12,15 @@ use borrow.Author.Tests.{eqb-true, eqb-false}
 use Rattle.sets.specs.Sets.{member}
 use Rattle.sets.proofs.Tests.{cases, and-l, and-r}
 use Rattle.plan.specs.declared.plan.Plan.{Plan}
-use Rattle.plan.specs.Outcome.{Outcome}
+use Rattle.refusals.specs.Outcome.{Outcome}
 use Rattle.protocol.specs.Sheet.{Line, lines, headOf, headPlan, wrongAt, reading}
-use Rattle.text.specs.Text.{isText, headFrom}
-use Rattle.text.proofs.Bytes.{all, head-parts, head-sized}
+use Rattle.hex.specs.Bytes.{isText}
+use Rattle.text.specs.Text.{headFrom}
+use Rattle.hex.proofs.Bytes.{all}
+use Rattle.text.proofs.Heads.{head-parts, head-sized}
 use Rattle.text.proofs.LineEnds.{stop}
-use Rattle.reader.specs.Reading.{lineFrame, framesOf, framesFrom, frameKey, rising, Rising, lineKey, goodLine, judgeLines, judgeTop}
+use Rattle.finding.specs.Frames.{lineFrame, framesOf, framesFrom, frameKey, rising, Rising, lineKey}
+use Rattle.reader.specs.Reading.{goodLine, judgeLines, judgeTop}
 use Rattle.reader.proofs.WholeSheet.{Begun, sheet-begun, sheet-refused, sheet-answer, read-head, read-frames}
 
 -- Lines that are accepted rise.

@@ -13,20 +13,22 @@ use Rattle.sets.specs.Sets.{member}
 use Rattle.sets.specs.Holders.{holderTable}
 use Rattle.sets.proofs.Tests.{clash, is-false, and-l, and-r, not-t}
 use Rattle.plan.specs.declared.plan.Plan.{Plan}
-use Rattle.plan.specs.declared.schedule.Run.{Run}
-use Rattle.plan.specs.declared.schedule.Round.{Round}
-use Rattle.plan.specs.Schedule.{listed, hasRound}
-use Rattle.plan.specs.Outcome.{Outcome, taken, refused}
+use Rattle.plan.specs.Listed.{listed}
+use Rattle.schedule.specs.declared.rounds.Run.{Run}
+use Rattle.schedule.specs.declared.rounds.Round.{Round}
+use Rattle.schedule.specs.Schedule.{hasRound}
+use Rattle.refusals.specs.Outcome.{Outcome, taken, refused}
 use Rattle.plan.specs.Calls.{judged}
-use Rattle.plan.proofs.Steps.{has-round}
+use Rattle.schedule.proofs.Steps.{has-round}
 use Rattle.protocol.specs.Nodes.{sent, due}
 use Rattle.protocol.specs.Sheet.{lines, judgeHead, wrongAt}
 use Rattle.frames.specs.Nodes.{Standing}
 use Rattle.frames.proofs.Standing.{standing}
-use Rattle.text.specs.Text.{isText, byteAt, bytesFrom}
-use Rattle.text.proofs.Bytes.{byte-below}
+use Rattle.hex.specs.Bytes.{isText, byteAt, bytesFrom}
+use Rattle.hex.proofs.Bytes.{byte-below}
 use Rattle.text.proofs.LineEnds.{stop, lines-none, lines-at}
-use Rattle.reader.specs.Reading.{lineFrame, keyOf, lineKey, expected, goodLine, judgeLines, judgeTop}
+use Rattle.finding.specs.Frames.{lineFrame, keyOf, lineKey}
+use Rattle.reader.specs.Reading.{expected, goodLine, judgeLines, judgeTop}
 
 -- A frame that is expected.
 module _ (p : Plan) (t : Run) (k : Round) (q i : ℕ) where

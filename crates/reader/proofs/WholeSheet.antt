@@ -15,17 +15,20 @@ use lib.Seq.{length-take-le}
 use borrow.Author.Tests.{eq-eqb, ne-eqb, eqb-true, eqb-false, lt-ltb, le-ltb, ltb-true, ltb-false, le-leb, leb-true, leb-false}
 use Rattle.sets.specs.Sets.{member}
 use Rattle.sets.proofs.Tests.{cases, same-test, and-l, and-r}
-use Rattle.plan.specs.Schedule.{hasRound}
-use Rattle.plan.specs.declared.refusal.Refusal.{Refusal}
-use Rattle.plan.specs.declared.refusal.Verdict.the-variants.{Refused}
-use Rattle.plan.specs.Outcome.{refused, refusal, verdict}
-use Rattle.plan.proofs.Outcomes.{refusal-number}
+use Rattle.schedule.specs.Schedule.{hasRound}
+use Rattle.refusals.specs.declared.refusal.Refusal.{Refusal}
+use Rattle.refusals.specs.declared.refusal.Verdict.the-variants.{Refused}
+use Rattle.refusals.specs.Outcome.{refused, refusal, verdict}
+use Rattle.refusals.proofs.Outcomes.{refusal-number}
 use Rattle.protocol.specs.Nodes.{due}
 use Rattle.protocol.specs.Sheet.{Line, lines, lineBytes, Head, headOf, headPlan, judgeHead, Frame, frameLine, earlier, rises, goodFrame, wrongAt, refusedReading, addFrame, readFrames, readHead, readLines, reading}
-use Rattle.text.specs.Text.{isText, byteAt, bytesFrom, headFrom}
-use Rattle.text.proofs.Bytes.{all, bytes-length, bytes-drop, text-bytes, text-none, byte-below, all-at, head-parts, head-sized}
+use Rattle.hex.specs.Bytes.{isText, byteAt, bytesFrom}
+use Rattle.text.specs.Text.{headFrom}
+use Rattle.hex.proofs.Bytes.{all, bytes-length, bytes-drop, text-bytes, text-none, byte-below, all-at}
+use Rattle.text.proofs.Heads.{head-parts, head-sized}
 use Rattle.text.proofs.LineEnds.{stop, lines-at}
-use Rattle.reader.specs.Reading.{judgedSays, lineFrame, framesOf, keyOf, lineKey, expected, goodLine, judgeLines, judgeTop}
+use Rattle.reader.specs.Reading.{judgedSays, expected, goodLine, judgeLines, judgeTop}
+use Rattle.finding.specs.Frames.{lineFrame, framesOf, keyOf, lineKey}
 use Rattle.reader.proofs.FrameLines.{top-none}
 
 -- Two numbers of two parts each, the second below w.

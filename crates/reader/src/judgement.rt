@@ -1,25 +1,29 @@
 // Judging a sheet whole, line by line.
-use crate::keys::key_of;
-use frames::sending::is_due;
+use finding::keys::key_of;
+use frames::writing::is_due;
+use hex::reading::byte_at;
+use hex::reading::is_text;
 use plan::plan::Plan;
-use plan::refusal::Refusal;
-use plan::refusal::Verdict;
-use plan::schedule::Round;
-use plan::schedule::Run;
+use refusals::refusal::Refusal;
+use refusals::refusal::Verdict;
+use schedule::rounds::Round;
+use schedule::rounds::Run;
+use schedule::rounds::has_round;
 use sets::boards::has;
+use text::head::Head;
 use text::head::head_of;
 use text::head::judge_head;
-use text::lines::byte_at;
-use text::lines::is_text;
 use text::lines::line_end;
 ghost use mathlib.Core.Path.{_≡_};
 ghost use Prim.Native.Nat.{_+_, _-_, _≤_};
 ghost use lib.Dec.{eqb};
-ghost use lib.ListN.{length, getD, drop};
+ghost use lib.ListN.{length, getD, take, drop};
 ghost use Rattle.sets.specs.Search.{first};
-ghost use Rattle.plan.specs.Outcome.{verdict};
+ghost use Rattle.refusals.specs.Outcome.{verdict};
 ghost use Rattle.plan.specs.Calls.{judged};
 ghost use Rattle.protocol.specs.Sheet.{lines, reading};
+ghost use Rattle.text.specs.Text.{headFrom};
+ghost use Rattle.finding.specs.Places.{lineStop};
 ghost use Rattle.reader.specs.Reading.{judgedSays, expected, goodLine, judgeLines, judgeTop};
 
 // The verdict on a sheet, and the line of a refusal.
@@ -35,7 +39,7 @@ fn is_expected(plan: Plan, run: Run, round: Round, sender: u8, receiver: u8) -> 
 {
     let n = plan.n;
     let dealer = plan.dealer;
-    if !plan.has_round(run, round) {
+    if !has_round(plan, run, round) {
         return false;
     }
     if n <= receiver {
@@ -127,20 +131,40 @@ fn judge_first(text: &[u8], end: usize) -> Verdict
     judge_head(&text[0..end])
 }
 
-// The whole sheet.
-pub fn judge_sheet(text: &[u8]) -> Judged
+// All lines, by where the first one ends and the head that it gives.
+fn judge_sheet(text: &[u8], end: usize, head: Head) -> Judged
+    requires { ⌜ (end ≡ lineStop (now text) 0) × (head ≡ headFrom (take (end - 0) (now text))) ⌝ }
     ensures { λ r. ⌜ (judgedSays r ≡ reading (now (text .entry)) .answer) × (r .line ≡ getD (reading (now (text .entry)) .answer .values) 0 0) × (r .line ≤ 1 + (length (now (text .entry)) - 2)) ⌝ }
 {
-    let end = line_end(text, 0);
     match judge_first(text, end) {
         Verdict::Refused(why) => Judged {
             verdict: Verdict::Refused(why),
             line: 1,
         },
         Verdict::Accepted => {
-            let head = head_of(&text[0..end]);
             let plan = head.plan;
             judge_frames(text, plan, head.faulty, end + 1)
         }
+    }
+}
+
+// A sheet that was read: what is judged of it, its head, and where its frame lines begin.
+pub struct ReadSheet {
+    pub judged: Judged,
+    pub head: Head,
+    pub frames: usize,
+}
+
+// The whole sheet.
+pub fn read_sheet(text: &[u8]) -> ReadSheet
+    ensures { λ r. ⌜ (judgedSays (r .judged) ≡ reading (now (text .entry)) .answer) × (r .judged .line ≡ getD (reading (now (text .entry)) .answer .values) 0 0) × (r .judged .line ≤ 1 + (length (now (text .entry)) - 2)) × (r .head ≡ headFrom (take (lineStop (now (text .entry)) 0) (now (text .entry)))) × (r .frames ≡ lineStop (now (text .entry)) 0 + 1) ⌝ }
+{
+    let end = line_end(text, 0);
+    let head = head_of(&text[0..end]);
+    let judged = judge_sheet(text, end, head);
+    ReadSheet {
+        judged: judged,
+        head: head,
+        frames: end + 1,
     }
 }

@@ -1,4 +1,2 @@
-// Reading a sheet: judging it whole, and finding a frame.
-pub mod finding;
+// Reading a sheet: it is judged whole, line by line.
 pub mod judgement;
-mod keys;

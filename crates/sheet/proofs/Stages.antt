@@ -10,23 +10,25 @@ use lib.Dec.{eqb, ltb}
 use lib.ListN.{length, getD, set, take, drop, replicate, length-set, length-replicate, getD-replicate}
 use lib.Seq.{getD-set-same, getD-set-other}
 use borrow.Author.Tests.{eqb-true, eqb-false, eq-eqb, ne-eqb, ltb-true, ltb-false, lt-ltb, le-ltb, lt-leb}
+use Rattle.codec.specs.Codec.{encode, decode}
+use Rattle.codec.proofs.Codec.{decode-encode}
 use Rattle.sets.specs.Sets.{member}
 use Rattle.sets.proofs.Tests.{cases, clash, and-l}
-use Rattle.plan.specs.Schedule.{rounds, steps, stepRun, stepRound}
-use Rattle.plan.specs.Outcome.{Outcome, taken, refused}
+use Rattle.schedule.specs.Schedule.{rounds, steps, stepRun, stepRound}
+use Rattle.refusals.specs.Outcome.{Outcome, taken, refused}
 use Rattle.plan.specs.Calls.{judged}
-use Rattle.plan.proofs.Outcomes.{taken-first}
+use Rattle.refusals.proofs.Outcomes.{taken-first}
 use Rattle.tree.specs.Places.{cellCount}
 use Rattle.sets.specs.Search.{any}
 use Rattle.protocol.specs.Limits.{cellsNeeded, frameRoom}
 use Rattle.protocol.specs.Nodes.{due}
-use Rattle.protocol.specs.Rounds.{Board}
-use Rattle.protocol.specs.Calls.{isTaken, voidRecord, judgeOpen, judgeSending, dealing, receiving, sending, frameOf, beginning}
+use Rattle.protocol.specs.Rounds.{boardWith, Board}
+use Rattle.protocol.specs.Calls.{isTaken, voidRecord, judgeOpen, judgeSending, dealing, taking, receiving, sending, frameOf, wireOf, beginning}
 use Rattle.protocol.specs.Session.{Adversary, Setting, boardAt, begun, hears, handIn, session, at}
 use Rattle.protocol.specs.Lists.{keeper, Sound}
 use Rattle.protocol.specs.Sheet.{Frame, headPlan}
 use Rattle.protocol.specs.Sheet as S
-use Rattle.protocol.specs.Playing.{findFrame, sheetAdversary, part, replacePart, setting, finalCells, finalBoards}
+use Rattle.protocol.specs.Playing.{findFrame, decoded, sheetAdversary, part, replacePart, setting, finalCells, finalBoards}
 use Rattle.protocol.proofs.Hearing.{hear}
 use Rattle.protocol.proofs.Synchronous.{at-start, at-next, told, keeper-facts}
 use Rattle.protocol.proofs.PartHeard.{MidStep, part-heard, cells-kept}
@@ -35,13 +37,15 @@ use Rattle.protocol.proofs.Few.{sends, unsent}
 use Rattle.protocol.proofs.Fairness.{sending-gives}
 use Rattle.protocol.proofs.Sheets.{GoodHead, head-n, head-dealer, parts-most, part-length}
 use Rattle.text.specs.declared.head.Head.{Head}
-use Rattle.sheet.specs.declared.acting.Act.{Act}
-use Rattle.sheet.specs.declared.acting.Act.the-variants.{Begin, Hear, HearFaulty, Close}
-use Rattle.sheet.specs.Stage.{Stage, noRecord, boardOn, keeps, acted, putBoard, actAll, dealtFrame, frameFrom, hearSender, hearSenders, playStep, framesLeft, playSteps}
+use Rattle.stage.specs.declared.acting.Act.{Act}
+use Rattle.stage.specs.declared.acting.Act.the-variants.{Begin, Hear, HearFaulty, Close}
+use Rattle.stage.specs.Stage.{Stage, noRecord, boardOn, keeps, acted, putBoard, actAll}
+use Rattle.hearing.specs.Hearing.{dealtFrame, frameFrom, hearSender, hearSenders}
+use Rattle.sheet.specs.Steps.{playStep, framesLeft, playSteps}
 use Rattle.walk.proofs.Whole.{rounds-most}
-use Rattle.sheet.proofs.Sender.{from-dealer, from-sender, heard-faulty}
+use Rattle.hearing.proofs.Sender.{from-dealer, from-sender, heard-faulty}
 use Rattle.sheet.proofs.Steps.{sought-left}
-use Rattle.sheet.proofs.Parts.{replace, laid, laid-same, laid-own, laid-part, laid-replace}
+use Rattle.stage.proofs.Parts.{replace, laid, laid-same, laid-own, laid-part, laid-replace}
 
 -- Nothing is due from the board to anybody: writing is refused.
 silent : (b : Board) (out : List ℕ) → Open b → any (λ i. due (b .rec .plan) (b .rec .board) i (b .rec .round)) (b .rec .plan .n) ≡ false
@@ -100,7 +104,7 @@ module _ (h : S.Head) (good : GoodHead h) (cells₀ : List ℕ) (room : cellsNee
   look w st x i k =
       let e : take c (drop (i * c) (st .cells)) ≡ w i .cells =
       ap (λ y. take c (drop (i * c) y)) (x .cells) ∙ laid-part (keeper s) c (λ j. w j .cells) (x .sizes) i n cells₀ (kept-below i k) k enough in
-      ap₂ (λ r y. record { rec = r; cells = y }) (x .recs i k) e
+      ap₂ (λ r y. boardWith r y) (x .recs i k) e
 
   abbrev updated : (ℕ → Board) → ℕ → Board → ℕ → Board
   updated w i b j = cond (eqb j i) b (w j)
@@ -198,7 +202,7 @@ module _ (h : S.Head) (good : GoodHead h) (cells₀ : List ℕ) (room : cellsNee
     at-size j i k l = cells-kept s a sound j i k l ∙ part-size i k
 
     unbegun : ℕ → Board
-    unbegun i = record { rec = voidRecord; cells = part n i cells₀ }
+    unbegun i = boardWith voidRecord (part n i cells₀)
 
     start-holds : Holds unbegun start
     unfolding unbegun part
@@ -245,11 +249,11 @@ module _ (h : S.Head) (good : GoodHead h) (cells₀ : List ℕ) (room : cellsNee
       unfolding acted hear hears setting sheetAdversary
       told-faulty q i l k e =
           let m = mid q i (omega arith) k in
-          rw e (ap (λ x. handIn q x (heard q i))
+          rw e (ap (λ x. handIn q (decoded x) (heard q i))
           (ap₂ (λ t u. findFrame t u q (heard q i .rec .board) rest) (m .run) (m .round) ∙ ap (λ b. findFrame (stepRun (headPlan h) (suc j)) (stepRound (headPlan h) (suc j)) q b rest) (m .board) ∙ sought-left (headPlan h) rounds-few j inside q i fs))
 
       -- The dealer's frame.
-      dealt-is : member (headPlan h .dealer) (h .faulty) ≡ false → dealing (headPlan h) (h .word) ≡ taken (h .word ∷ [])
+      dealt-is : member (headPlan h .dealer) (h .faulty) ≡ false → dealing (headPlan h) (h .word) ≡ taken (encode (h .word ∷ []))
       unfolding dealing setting
       dealt-is e =
           let below = sound .word-below e in
@@ -257,27 +261,27 @@ module _ (h : S.Head) (good : GoodHead h) (cells₀ : List ℕ) (room : cellsNee
 
       told-dealer : (q i : ℕ) (f : List ℕ) → member q (h .faulty) ≡ false → q ≡ headPlan h .dealer → f ≡ dealtFrame (codeHead h)
           → acted (headPlan h) (Hear q) rest f i (heard q i) ≡ heard (suc q) i
-      unfolding acted hear hears setting handIn dealtFrame codeHead isTaken
+      unfolding acted hear hears setting handIn dealtFrame codeHead isTaken receiving
       told-dealer q i f e d ef =
           let t = dealt-is (subst (λ x. member x (h .faulty) ≡ false) d e) in
-          let f-is : f ≡ dealing (headPlan h) (h .word) .values = ef ∙ ap (λ o. cond (isTaken o) (o .values) []) t ∙ sym (ap (λ (o : Outcome). o .values) t) in
-          rw (e, eq-eqb q (headPlan h .dealer) d) (ap (λ x. receiving (heard q i) q x .board) f-is)
+          let f-is : f ≡ encode (h .word ∷ []) = ef ∙ ap (λ o. cond (isTaken o) (o .values) []) t in
+          rw (e, eq-eqb q (headPlan h .dealer) d) (ap (λ x. taking (heard q i) q x .board) (ap decode f-is ∙ decode-encode (h .word ∷ [])))
 
       -- The frame of a board that keeps cells.
       written : (q : ℕ) (b : Board) → Open b → q ≢ headPlan h .dealer
-          → (frameFrom (codeHead h) q b ≡ frameOf b) ⊎ (sending b (replicate frameRoom 0) .answer .number ≢ 0)
+          → (frameFrom (codeHead h) q b ≡ wireOf b) ⊎ (sending b (replicate frameRoom 0) .answer .number ≢ 0)
       unfolding codeHead
       written q b o ne =
           let r = b .rec in
           let out = replicate {A = ℕ} frameRoom 0 in
           cases (any (λ i. due (r .plan) (r .board) i (r .round)) (r .plan .n))
           (λ x. let t = sends b out o (omega (arith, length-replicate {A = ℕ} frameRoom 0)) x in
-          inl (sym (from-sender (codeHead h) q b (length (frameOf b)) out ne refl (sym t)) ∙ sending-gives b out (length (frameOf b)) t))
+          inl (sym (from-sender (codeHead h) q b (length (wireOf b)) out ne refl (sym t)) ∙ sending-gives b out (length (wireOf b)) t))
           (λ x. inr (λ z. let y : ⊥ = omega (arith, sym (silent b out o x) ∙ z) in y))
 
       told-keeper : (q i : ℕ) (f : List ℕ) → keeper s q ≡ true → keeper s i ≡ true → f ≡ frameFrom (codeHead h) q (heard q q)
           → acted (headPlan h) (Hear q) rest f i (heard q i) ≡ heard (suc q) i
-      unfolding acted hear hears setting handIn at
+      unfolding acted hear hears setting handIn at receiving wireOf
       told-keeper q i f kq ki ef =
           let (below, e, d) = keeper-facts s a sound q kq in
           let mq = mid q q (omega arith) kq in
@@ -285,8 +289,8 @@ module _ (h : S.Head) (good : GoodHead h) (cells₀ : List ℕ) (room : cellsNee
           let g = frameOf (at s a j q) in
           rw (e, ne-eqb q (headPlan h .dealer) d)
           (⊎-elim
-          (λ x. ap (λ y. receiving (heard q i) q y .board) (ef ∙ x ∙ mq .sends))
-          (λ x. nothing q i f kq ki x ∙ sym (nothing q i g kq ki x))
+          (λ x. ap (λ y. taking (heard q i) q y .board) (ap decode (ef ∙ x) ∙ decode-encode (frameOf (heard q q)) ∙ mq .sends))
+          (λ x. nothing q i f kq ki x ∙ sym (ap (λ y. taking (heard q i) q y .board) (sym (decode-encode g)) ∙ nothing q i (encode g) kq ki x))
           (written q (heard q q) (mq .opened) d))
         where
           nothing : (q i : ℕ) (y : List ℕ) → keeper s q ≡ true → keeper s i ≡ true → sending (heard q q) (replicate frameRoom 0) .answer .number ≢ 0

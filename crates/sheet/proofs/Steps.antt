@@ -12,16 +12,29 @@ use lib.Dec.{eqb}
 use borrow.Author.Tests.{eqb-true, eqb-false, lt-leb}
 use Rattle.sets.proofs.Tests.{cases}
 use Rattle.plan.specs.declared.plan.Plan.{Plan}
-use Rattle.plan.specs.declared.schedule.Run.{Run}
-use Rattle.plan.specs.declared.schedule.Round.{Round}
-use Rattle.plan.specs.Schedule.{depthOf, ceilDiv, isCut, rounds, runs, steps, stepRun, stepRound}
-use Rattle.plan.proofs.Levels.{ceil-none, ceil-le, runs-cut, runs-full}
-use Rattle.plan.proofs.Steps.{step-has, step-of-round, earlier-step}
+use Rattle.schedule.specs.declared.rounds.Run.{Run}
+use Rattle.schedule.specs.declared.rounds.Round.{Round}
+use Rattle.schedule.specs.Schedule.{depthOf, ceilDiv, isCut, rounds, runs, steps, stepRun, stepRound}
+use Rattle.schedule.proofs.Levels.{ceil-none, ceil-le, runs-cut, runs-full}
+use Rattle.schedule.proofs.Steps.{step-has, step-of-round, earlier-step}
 use Rattle.protocol.specs.Sheet.{Frame}
 use Rattle.protocol.specs.Playing.{findFrame}
-use Rattle.reader.specs.Reading.{keyOf, rising}
-use Rattle.reader.proofs.ByKey.{rising-skipped, find-skipped}
-use Rattle.sheet.specs.Stage.{stepKey, framesLeft}
+use Rattle.finding.specs.Frames.{keyOf, rising, skipFrames}
+use Rattle.finding.proofs.ByKey.{rising-skipped, find-skipped}
+use Rattle.sheet.specs.Steps.{stepKey, framesLeft, playStep, playSteps}
+use native.Mathlib.Numerals.{add-one}
+use Rattle.text.specs.declared.head.Head.{Head}
+use Rattle.stage.specs.Stage.{Stage}
+
+-- One step more, with what is left of the frames.
+pub left-more : (p : Plan) (j : ℕ) (fs : List Frame) → skipFrames (stepKey p j) (framesLeft p j fs) ≡ framesLeft p (j + 1) fs
+unfolding framesLeft
+left-more p j fs = rw (add-one j) refl
+
+pub played-more : (h : Head) (fs rest : List Frame) (j : ℕ) (st t : Stage) → rest ≡ skipFrames (stepKey (h .plan) j) (framesLeft (h .plan) j fs) → st ≡ playSteps h fs j t
+    → playStep h rest st ≡ playSteps h fs (j + 1) t
+unfolding playSteps framesLeft
+played-more h fs rest j st t er e = rw (add-one j) (ap₂ (playStep h) er e)
 
 module _ (p : Plan) where
   -- The keys of steps rise.

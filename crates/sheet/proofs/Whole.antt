@@ -9,8 +9,8 @@ use native.Mathlib.Omega.{arith}
 use lib.Dec.{eqb}
 use lib.ListN.{length, getD, drop, replicate}
 use borrow.Author.Tests.{eq-eqb, ne-eqb, lt-ltb, le-ltb}
-use Rattle.plan.specs.Schedule.{steps}
-use Rattle.plan.specs.Outcome.{Outcome, taken, refused, verdict}
+use Rattle.schedule.specs.Schedule.{steps}
+use Rattle.refusals.specs.Outcome.{Outcome, taken, refused, verdict}
 use Rattle.protocol.specs.Limits.{sheetMost, outputNeeded, cellsNeeded}
 use Rattle.protocol.specs.declared.records.Record.{Record}
 use Rattle.protocol.specs.Calls.{voidRecord}
@@ -26,7 +26,8 @@ use Rattle.reader.specs.Reading.{judgedSays}
 use Rattle.reader.proofs.Accepted.{sheet-rising}
 use Rattle.printer.specs.Printed.{boardLines}
 use Rattle.printer.proofs.BoardLines.{lines-played}
-use Rattle.sheet.specs.Stage.{Stage, Ready, noRecord, playSteps}
+use Rattle.stage.specs.Stage.{Stage, Ready, noRecord}
+use Rattle.sheet.specs.Steps.{playSteps}
 use Rattle.sheet.proofs.Stages.{codeHead, final-stage, final-cells, final-record}
 
 in-list : (l : List Record) (i : ℕ) (d e : Record) → i < length l → getD l i d ≡ getD l i e

@@ -1,4 +1,3 @@
 // Playing a sheet.
-mod acting;
 pub mod playing;
-mod stage;
+mod rounds;

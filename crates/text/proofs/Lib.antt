@@ -1,3 +1,2 @@
-pub mod Digits
-pub mod Bytes
 pub mod LineEnds
+pub mod Heads

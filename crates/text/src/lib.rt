@@ -1,3 +1,3 @@
-// Reading a sheet.
+// The text of a sheet: its lines and its head.
 pub mod head;
 pub mod lines;

@@ -1,29 +1,12 @@
-// The text of a sheet: lines, and the bytes that a line's digits stand for.
+// The lines of a sheet, and what stands in a line.
+use codec::value::Value;
+use hex::reading::byte_at;
 ghost use mathlib.Core.Path.{_≡_};
 ghost use Prim.Native.Nat.{_-_};
 ghost use lib.Dec.{eqb};
 ghost use lib.ListN.{length, getD, drop};
 ghost use Rattle.sets.specs.Search.{first};
-ghost use Rattle.text.specs.Text.{digitOr, isText, byteAt};
-
-// The value of an uppercase hexadecimal digit; 255 for another character.
-fn digit_of(c: u8) -> u8
-    ensures { λ r. ⌜ r ≡ digitOr c ⌝ }
-{
-    if c < 48 {
-        return 255;
-    }
-    if c <= 57 {
-        return c - 48;
-    }
-    if c < 65 {
-        return 255;
-    }
-    if c <= 70 {
-        return c - 55;
-    }
-    255
-}
+ghost use Rattle.text.specs.Text.{numberFrom};
 
 // Where the line that begins at `start` ends: its newline, or the end of the text.
 pub fn line_end(text: &[u8], start: usize) -> usize
@@ -39,41 +22,6 @@ pub fn line_end(text: &[u8], start: usize) -> usize
     i
 }
 
-// Are these digits only, two for each byte?
-pub fn is_text(line: &[u8]) -> bool
-    ensures { λ r. ⌜ r ≡ isText (now (line .entry)) ⌝ }
-{
-    if line.len() % 2 == 1 {
-        return false;
-    }
-    let mut i = 0;
-    while i < line.len() {
-        if digit_of(line[i]) == 255 {
-            return false;
-        }
-        i += 1;
-    }
-    true
-}
-
-// Byte number k of a line of digits; 0 where it has none.
-pub fn byte_at(line: &[u8], k: usize) -> u8
-    ensures { λ r. ⌜ r ≡ byteAt (now (line .entry)) k ⌝ }
-{
-    if line.len() / 2 <= k {
-        return 0;
-    }
-    let high = digit_of(line[2 * k]);
-    let low = digit_of(line[2 * k + 1]);
-    if high == 255 {
-        return 0;
-    }
-    if low == 255 {
-        return 0;
-    }
-    high * 16 + low
-}
-
 // The digits of a frame line's values: all after the first four bytes.
 pub fn values_of(line: &[u8]) -> &[u8]
     ensures { λ r. ⌜ now r ≡ drop 8 (now (line .entry)) ⌝ }
@@ -82,4 +30,11 @@ pub fn values_of(line: &[u8]) -> &[u8]
         return &line[line.len()..];
     }
     &line[8..]
+}
+
+// The number that stands from byte number k of the line's bytes on, as wide as a value.
+pub fn number_at(line: &[u8], k: usize) -> Value
+    ensures { λ r. ⌜ r ≡ numberFrom (now (line .entry)) k ⌝ }
+{
+    byte_at(line, k)
 }

@@ -10,7 +10,7 @@ use Rattle.sets.specs.Sets.{member}
 use Rattle.tree.specs.Labels.{Label, occurs, mask, labels, labelAt}
 use Rattle.tree.specs.Places.{levelSize, levelStart, cellCount, rank, place, childIndex}
 use Rattle.tree.proofs.ChildIndex.{child-index}
-use Rattle.tree.proofs.Labels.{no-label, label-has, label-length}
+use Rattle.tree.proofs.Labels.{no-label, label-has}
 use Rattle.tree.proofs.Masks.{mask-member}
 use Rattle.tree.proofs.Places.{place-split, place-lt, label-level}
 use Rattle.tree.proofs.Ranks.{label-mem, get-rank, rank-lt, rank-get}

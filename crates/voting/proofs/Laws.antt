@@ -17,7 +17,7 @@ use Rattle.sets.proofs.Tests.{cases, clash, is-true, and-l, and-r, and-true, or
 use Rattle.sets.proofs.Search.{any-true, any-of}
 use Rattle.sets.proofs.Only.{only-same}
 use Rattle.plan.specs.declared.plan.Plan.{Plan}
-use Rattle.plan.specs.Schedule.{listed}
+use Rattle.plan.specs.Listed.{listed}
 use Rattle.plan.specs.Calls.{judged}
 use Rattle.tree.specs.Labels.{Label, occurs, mask}
 use Rattle.tree.proofs.Masks.{mask-member}

@@ -18,7 +18,7 @@ use Rattle.sets.proofs.Search.{any-true, any-false}
 use Rattle.sets.proofs.Tolerated.{tolerated-empty}
 use Rattle.sets.proofs.Only.{only-hit, only-some, only-or}
 use Rattle.plan.specs.declared.plan.Plan.{Plan}
-use Rattle.plan.specs.Schedule.{listed}
+use Rattle.plan.specs.Listed.{listed}
 use Rattle.tree.specs.Cells.{blank}
 use Rattle.voting.specs.Worth.{worth}
 use Rattle.voting.specs.Tables.{at, agreeing, elected, voted}

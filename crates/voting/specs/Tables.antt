@@ -10,7 +10,7 @@ use Rattle.sets.specs.Only.{only}
 use Rattle.sets.specs.Sets.{member, setOf}
 use Rattle.sets.specs.Structure.{tolerated}
 use Rattle.plan.specs.declared.plan.Plan.{Plan}
-use Rattle.plan.specs.Schedule.{listed}
+use Rattle.plan.specs.Listed.{listed}
 use Rattle.voting.specs.Worth.{worth}
 
 -- What child c is worth; a table has eight entries.

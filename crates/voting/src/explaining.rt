@@ -1,5 +1,6 @@
-// Both rules at one node, from what its children are worth.
+// Both rules at one node, from what its children are worth. `detected` is the list as a set.
 use crate::values::tolerates;
+use codec::value::Value;
 use plan::plan::Plan;
 use sets::boards::has;
 ghost use mathlib.Core.Path.{_≡_};
@@ -11,7 +12,7 @@ ghost use Rattle.plan.specs.Tabled.{Tabled};
 ghost use Rattle.voting.specs.Tables.{at, dissenting, explains, explainedBy};
 
 // Is child c worth something else than v?
-fn dissents(boards: u8, values: [u8; 8], v: u8, c: u8) -> bool
+fn dissents(boards: u8, values: [Value; 8], v: Value, c: u8) -> bool
     requires { ⌜ c < 8 ⌝ }
     ensures { λ r. ⌜ r ≡ (not (member c boards) && not (eqb (at values c) v)) ⌝ }
 {
@@ -22,7 +23,7 @@ fn dissents(boards: u8, values: [u8; 8], v: u8, c: u8) -> bool
 }
 
 // The children not worth v, and the boards of the list.
-fn dissenting_from(n: u8, boards: u8, values: [u8; 8], v: u8, detected: u8) -> u8
+fn dissenting_from(n: u8, boards: u8, values: [Value; 8], v: Value, detected: u8) -> u8
     requires { ⌜ n ≤ 8 ⌝ }
     ensures { λ r. ⌜ r ≡ dissenting n boards values v detected ⌝ }
 {
@@ -42,7 +43,7 @@ fn explains_all(
     plan: Plan,
     holders: &[u8],
     boards: u8,
-    values: [u8; 8],
+    values: [Value; 8],
     detected: u8,
     c: u8,
 ) -> bool
@@ -64,7 +65,13 @@ fn explains_all(
 }
 
 // Does the value of some child?
-pub fn explained_by(plan: Plan, holders: &[u8], boards: u8, values: [u8; 8], detected: u8) -> bool
+pub fn explained_by(
+    plan: Plan,
+    holders: &[u8],
+    boards: u8,
+    values: [Value; 8],
+    detected: u8,
+) -> bool
     requires { ⌜ Tabled plan (now holders) ⌝ }
     ensures { λ r. ⌜ r ≡ explainedBy plan boards values detected ⌝ }
 {

@@ -4,7 +4,7 @@ use sets::holders::holds;
 ghost use mathlib.Core.Path.{_≡_};
 ghost use Prim.Native.Nat.{_<_, _^_};
 ghost use Rattle.sets.specs.Structure.{tolerated};
-ghost use Rattle.plan.specs.Schedule.{listed};
+ghost use Rattle.plan.specs.Listed.{listed};
 ghost use Rattle.plan.specs.Tabled.{Tabled};
 
 // Is a set of the plan's boards tolerated?

@@ -1,5 +1,6 @@
 // Resolving a node from what its children are worth.
 use crate::values::tolerates;
+use codec::value::Value;
 use plan::plan::Plan;
 use sets::boards::has;
 ghost use mathlib.Core.Path.{_≡_};
@@ -11,7 +12,7 @@ ghost use Rattle.plan.specs.Tabled.{Tabled};
 ghost use Rattle.voting.specs.Tables.{at, agreeing, elected, voted};
 
 // The children worth v.
-fn agreeing_on(n: u8, boards: u8, values: [u8; 8], v: u8) -> u8
+fn agreeing_on(n: u8, boards: u8, values: [Value; 8], v: Value) -> u8
     requires { ⌜ n ≤ 8 ⌝ }
     ensures { λ r. ⌜ r ≡ agreeing n boards values v ⌝ }
 {
@@ -27,7 +28,7 @@ fn agreeing_on(n: u8, boards: u8, values: [u8; 8], v: u8) -> u8
 }
 
 // Is child c worth a value whose holders are not tolerated?
-fn elects(plan: Plan, holders: &[u8], boards: u8, values: [u8; 8], c: u8) -> bool
+fn elects(plan: Plan, holders: &[u8], boards: u8, values: [Value; 8], c: u8) -> bool
     requires { ⌜ Tabled plan (now holders) × (c < plan .n) ⌝ }
     ensures { λ r. ⌜ r ≡ (not (member c boards) && (ltb (at values c) (plan .span) && elected plan boards values (at values c))) ⌝ }
 {
@@ -42,7 +43,7 @@ fn elects(plan: Plan, holders: &[u8], boards: u8, values: [u8; 8], c: u8) -> boo
 }
 
 // The only value below m whose holders are not tolerated, of the children's own; FF if there is none or more than one.
-pub fn vote(plan: Plan, holders: &[u8], boards: u8, values: [u8; 8]) -> u8
+pub fn vote(plan: Plan, holders: &[u8], boards: u8, values: [Value; 8]) -> u8
     requires { ⌜ Tabled plan (now holders) ⌝ }
     ensures { λ r. ⌜ r ≡ voted plan boards values ⌝ }
 {

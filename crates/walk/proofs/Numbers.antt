@@ -7,7 +7,7 @@ use mathlib.Core.Bool.{Bool, true, false, not, _&&_}
 use mathlib.Core.List.{List, [], _∷_, _++_, map, map-append, flatMap}
 use native.Mathlib.Omega.{arith}
 use native.Mathlib.Nat.{one-mul}
-use lib.Bits.{bitAnd, and-high, and-zero-r, or-lt}
+use lib.Bits.{bitAnd, bitOr, and-high, and-zero-r, or-lt}
 use lib.Dec.{eqb, ltb}
 use lib.ListN.{length, length-take, getD}
 use lib.Pow.{pow-lt, pow-pos, pow-add}
@@ -20,13 +20,15 @@ use Rattle.sets.proofs.Count.{count-in, count-out, count-zero}
 use Rattle.sets.proofs.Member.{member-high}
 use Rattle.sets.proofs.Held.{table-at, held-tolerated}
 use Rattle.plan.specs.declared.plan.Plan.{Plan}
-use Rattle.plan.specs.Schedule.{listed, rounds}
+use Rattle.plan.specs.Listed.{listed}
+use Rattle.schedule.specs.Schedule.{rounds}
 use Rattle.tree.specs.Labels.{Label, occurs, mask, last, childrenFrom, children}
 use Rattle.tree.specs.Places.{rank, ordinal}
 use Rattle.tree.proofs.Masks.{mask-member}
 use Rattle.tree.proofs.Ranks.{rank-child}
-use Rattle.protocol.specs.Nodes.{internal, carried}
-use Rattle.walk.specs.Walk.{code, below, single, isOpen, kids, walked}
+use Rattle.protocol.specs.Nodes.{carried}
+use Rattle.walk.specs.Walk.{code, below, single, isOpen, barred, isInternal, kids, walked}
+use Rattle.walk.proofs.InternalNodes.{internal-is, without-both}
 use Rattle.walk.proofs.Carried.{carries, below-carried}
 
 map-flat : (g : Label → ℕ) (f : Label → List Label) (αs : List Label) → map g (flatMap f αs) ≡ flatMap (λ α. map g (f α)) αs
@@ -118,25 +120,30 @@ module _ (p : Plan) (q i : ℕ) (holders : List ℕ) (table : holders ≡ holder
   unfolding listed
   listed-few = omega (arith, length-take (p .count) (p .sets))
 
-  -- Below level R the test of the boards is that of the label.
-  is-open : (α : Label) → mask α < 128 → length α < rounds p .0 → isOpen holders (single q) (mask α) ≡ carries p q i α
-  unfolding isOpen internal
+  -- Above level R the test of the boards is that of the label.
+  is-open : (α : Label) → mask α < 128 → length α < rounds p .0 → isOpen holders (bitOr (single q) (barred p i)) (mask α) ≡ carries p q i α
+  unfolding isOpen isInternal
   is-open α h l =
       let held : not (eqb (getD holders (mask α) 255) 255) ≡ tolerated (listed p) (mask α) =
       ap (λ x. not (eqb (getD x (mask α) 255) 255)) table ∙ ap (λ x. not (eqb x 255)) (table-at (listed p) (mask α) h) ∙ held-tolerated (listed p) (mask α) listed-few in
       let out = single-apart q (mask α) h ∙ ap not (mask-member q α) in
-      rw (out, held, lt-ltb (length α) (rounds p .0) l) (ap (λ x. not (occurs q α) && x) (sym (and-one (tolerated (listed p) (mask α)))))
+      let apart : eqb (bitAnd (mask α) (bitOr (single q) (barred p i))) 0 ≡ (not (occurs q α) && eqb (bitAnd (mask α) (barred p i)) 0) =
+      without-both p i (single q) (mask α) ∙ ap (λ b. b && eqb (bitAnd (mask α) (barred p i)) 0) out in
+      rw (apart, held, internal-is p i α, lt-ltb (length α) (rounds p .0) l)
+      (regroup (not (occurs q α)) (eqb (bitAnd (mask α) (barred p i)) 0) (tolerated (listed p) (mask α)))
     where
-      and-one : (b : Bool) → (b && true) ≡ b
-      and-one true = refl
-      and-one false = refl
+      regroup : (a b c : Bool) → ((a && b) && c) ≡ (a && ((b && c) && true))
+      regroup true true true = refl
+      regroup true true false = refl
+      regroup true false c = refl
+      regroup false b c = refl
 
   -- The walk from the root lists the nodes that a frame of board q carries.
   pub walked-carried : (level : ℕ) → p .n ≤ 7 → p .dealer < p .n → 1 ≤ level → level ≤ p .n → level < rounds p .0
-      → walked (isOpen holders (single q)) (p .n) (p .n - level) (level - 1) 0 (p .dealer) (mask (p .dealer ∷ [])) ≡ map (code (p .n)) (carried p q i level)
+      → walked (isOpen holders (bitOr (single q) (barred p i))) (p .n) (p .n - level) (level - 1) 0 (p .dealer) (mask (p .dealer ∷ [])) ≡ map (code (p .n)) (carried p q i level)
   unfolding rank last
   walked-carried level most ld low high below-top =
-      walked-below (isOpen holders (single q)) (carries p q i) (p .n) (p .n - level) level most (omega arith)
+      walked-below (isOpen holders (bitOr (single q) (barred p i))) (carries p q i) (p .n) (p .n - level) level most (omega arith)
       (λ α h l. is-open α h (omega arith))
       (level - 1) (p .dealer ∷ []) (omega arith) (omega arith) (root-mask (p .dealer) (omega arith))
       ∙ ap (map (code (p .n))) (below-carried p q i (level - 1) ∙ ap (carried p q i) (let z : suc (level - 1) ≡ level = omega arith in z))

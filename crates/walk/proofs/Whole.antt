@@ -4,6 +4,7 @@ use Prim.Native.Nat.{ℕ, _+_, _-_, _*_, _%_, _^_, _≤_, _<_}
 use mathlib.Core.Path.{_≡_, refl, sym, _∙_, ap, subst}
 use mathlib.Core.List.{List, [], _∷_, _++_, map}
 use native.Mathlib.Omega.{arith}
+use lib.Bits.{bitOr}
 use lib.Dec.{ltb}
 use lib.ListN.{length, drop, length-map}
 use lib.Seq.{sets-eq}
@@ -13,15 +14,16 @@ use Rattle.sets.proofs.Held.{table-length}
 use Rattle.sets.proofs.Tests.{cases}
 use Rattle.plan.specs.declared.plan.Plan.{Plan}
 use Rattle.plan.specs.Calls.{judged}
-use Rattle.plan.specs.Schedule.{listed, isCut, rounds}
-use Rattle.plan.proofs.Height.{height-le}
-use Rattle.plan.proofs.Levels.{rounds-cut, rounds-full, cut-depth}
+use Rattle.plan.specs.Listed.{listed}
+use Rattle.schedule.specs.Schedule.{isCut, rounds}
+use Rattle.schedule.proofs.Height.{height-le}
+use Rattle.schedule.proofs.Levels.{rounds-cut, rounds-full, cut-depth}
 use Rattle.tree.specs.Labels.{Label, mask}
 use Rattle.tree.proofs.Below.{all-at}
 use Rattle.tree.proofs.Descent.{root-byte}
 use Rattle.protocol.specs.Nodes.{inner, carried}
 use Rattle.protocol.proofs.Judgement.{plan-facts}
-use Rattle.walk.specs.Walk.{code, single, isOpen, walked}
+use Rattle.walk.specs.Walk.{code, single, isOpen, barred, walked}
 use Rattle.walk.specs.Listing.{Walkable, Lists, Stands, Written}
 use Rattle.walk.proofs.Carried.{carried-all}
 use Rattle.walk.proofs.Numbers.{root-mask, walked-carried}
@@ -57,7 +59,7 @@ root p = 1 * 2 ^ p .dealer % 256
 abbrev walked-from : Plan → ℕ → ℕ → List ℕ → List ℕ
 walked-from p level w holders = walked (isOpen holders w) (p .n) (p .n - level) (level - 1) 0 (p .dealer) (root p)
 
-module _ (p : Plan) (q i level w : ℕ) (holders nodes : List ℕ) (k : Walkable p level (carried p q i level) holders nodes) (few : p .count ≤ 255) (e : w ≡ single q) where
+module _ (p : Plan) (q i level w : ℕ) (holders nodes : List ℕ) (k : Walkable p level (carried p q i level) holders nodes) (few : p .count ≤ 255) (e : w ≡ bitOr (single q) (barred p i)) where
   abbrev list : List ℕ
   list = walked-from p level w holders
 

@@ -6,7 +6,8 @@ use lib.ListN.{length, drop}
 use lib.Seq.{sets}
 use Rattle.sets.specs.Holders.{holderTable}
 use Rattle.plan.specs.declared.plan.Plan.{Plan}
-use Rattle.plan.specs.Schedule.{listed, rounds}
+use Rattle.plan.specs.Listed.{listed}
+use Rattle.schedule.specs.Schedule.{rounds}
 use Rattle.tree.specs.Labels.{Label}
 use Rattle.walk.specs.Walk.{code}
 

@@ -7,6 +7,9 @@ use lib.Bits.{bitAnd}
 use lib.Dec.{eqb, ltb}
 use lib.ListN.{getD}
 use Rattle.sets.specs.Sets.{member, insert}
+use Rattle.sets.specs.Structure.{tolerated}
+use Rattle.plan.specs.declared.plan.Plan.{Plan}
+use Rattle.plan.specs.Listed.{listed}
 use Rattle.tree.specs.Labels.{Label, mask, last, children}
 use Rattle.tree.specs.Places.{rank}
 
@@ -31,6 +34,15 @@ single q = cond (ltb q 8) (2 ^ q) 0
 -- Is a set of boards held, by the table of holders, and without the boards of the set w?
 unfoldable pub isOpen : List ℕ → ℕ → ℕ → Bool
 isOpen holders w s = eqb (bitAnd s w) 0 && not (eqb (getD holders s 255) 255)
+
+-- The boards that a node is without if it is internal to board i: none, nodes are internal to all boards alike.
+unfoldable pub barred : Plan → ℕ → ℕ
+barred p i = 0
+
+-- Is a node above level R with the boards s internal to board i? `internal` of crate protocol is the definition, and `internal-is` in
+-- proofs/InternalNodes shows that this is it.
+unfoldable pub isInternal : Plan → ℕ → ℕ → Bool
+isInternal p i s = eqb (bitAnd s (barred p i)) 0 && tolerated (listed p) s
 
 -- What f says of the children of a node with the boards s, by the boards c, c + 1, .., k in all; i is the number of the first.
 unfoldable pub kids : (ℕ → ℕ → ℕ → List ℕ) → ℕ → ℕ → ℕ → ℕ → List ℕ

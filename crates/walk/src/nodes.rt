@@ -1,10 +1,10 @@
 // The walk: the nodes of a level that are held and without some boards, in cell order.
+use crate::internal::barred_to;
+use crate::internal::is_open;
 use crate::node::node_of;
 use plan::plan::Plan;
 use sets::boards::has;
-use sets::holders::holds;
 ghost use mathlib.Core.Path.{_≡_};
-ghost use Rattle.sets.specs.Holders.{Asked};
 ghost use Rattle.protocol.specs.Nodes.{inner, carried};
 ghost use Rattle.walk.specs.Walk.{single, isOpen, walked};
 ghost use Rattle.walk.specs.Listing.{Stands, Written, Walkable, Lists};
@@ -17,17 +17,6 @@ fn set_of(q: u8) -> u8
         return 1 << q;
     }
     0
-}
-
-// Is a set of boards held, and without the boards of the set `without`?
-fn is_open(holders: &[u8], without: u8, boards: u8) -> bool
-    requires { ⌜ Asked (now holders) boards ⌝ }
-    ensures { λ r. ⌜ r ≡ isOpen (now (holders .entry)) without boards ⌝ }
-{
-    if (boards & without) != 0 {
-        return false;
-    }
-    holds(holders, boards)
 }
 
 // Writes the nodes `left` levels below a node from place `used` on; the place after them.
@@ -59,18 +48,26 @@ fn walk(
     let mut c: u8 = 0;
     while c < n {
         if !has(boards, c) {
-            at = walk(
-                holders,
-                n,
-                spare,
-                without,
-                next,
-                c,
-                boards | (1 << c),
-                left - 1,
-                at,
-                nodes,
-            );
+            let below = boards | (1 << c);
+            if is_open(holders, without, below) {
+                if left == 1 {
+                    nodes[at] = node_of(next, c, below);
+                    at += 1;
+                } else {
+                    at = walk(
+                        holders,
+                        n,
+                        spare,
+                        without,
+                        next,
+                        c,
+                        below,
+                        left - 1,
+                        at,
+                        nodes,
+                    );
+                }
+            }
             next += 1;
         }
         c += 1;
@@ -92,7 +89,7 @@ pub fn carried_nodes(
 {
     let n = plan.n;
     let dealer = plan.dealer;
-    let without = set_of(q);
+    let without = set_of(q) | barred_to(plan, board);
     walk(
         holders,
         n,

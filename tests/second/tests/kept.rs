@@ -28,15 +28,23 @@ fn corpus_names_hold() {
     }
 }
 
-/// Number 5 is met by one set for every n, by two and by three.
+/// Number 5 is met by one set for every n, by two where no one covers, and by three where no two do; the mistakes in
+/// trying sets tell which.
 #[test]
 fn corpus_covers_by_one_two_and_three() {
-    let count = |kind: &str| {
-        let names = corpus::load().into_iter().map(|(name, _)| name);
-        names.filter(|name| name.starts_with(kind)).count()
+    let kept = corpus::load();
+    let told = |kind: &str, mistake: Mistake| -> Vec<bool> {
+        let sheets = kept.iter().filter(|(name, _)| name.starts_with(kind));
+        sheets
+            .map(|(_, text)| Mistake::told_by(text).contains(&mistake))
+            .collect()
     };
-    assert_eq!(count("refusal-05-one-n"), 7);
-    assert!(count("refusal-05-two") > 0 && count("refusal-05-three") > 0);
+    let (one, two, three) = ("refusal-05-one-n", "refusal-05-two", "refusal-05-three");
+    assert_eq!(told(one, Mistake::CoverByDifferent), [true; 7]);
+    assert_eq!(told(one, Mistake::CoverByFirst), [false; 7]);
+    assert_eq!(told(two, Mistake::CoverByFirst), [true; 2]);
+    assert_eq!(told(two, Mistake::CoverByTwo), [false; 2]);
+    assert_eq!(told(three, Mistake::CoverByTwo), [true; 2]);
 }
 
 #[test]

@@ -2,8 +2,8 @@
 -- Assumes nothing.
 use mathlib.Core.Path.{sym, ap, _∙_}
 use borrow.Author.Needs.{needs}
-use Rattle.plan.specs.Outcome.{Outcome, refusal, verdict}
-use Rattle.plan.proofs.Outcomes.{refusal-number}
+use Rattle.refusals.specs.Outcome.{Outcome, refusal, verdict}
+use Rattle.refusals.proofs.Outcomes.{refusal-number}
 use Rattle.beginning.proofs.Answers.{begin-refused, begin-taken, begin-ready}
 use Rattle.beginning.proofs.beginning.begin.Statement.{statement}
 use Rattle.beginning.proofs.beginning.begin.Tie as tie

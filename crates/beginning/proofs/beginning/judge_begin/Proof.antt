@@ -2,7 +2,7 @@
 -- Assumes nothing.
 use mathlib.Core.Path.{ap₂, _∙_}
 use borrow.Author.Needs.{needs}
-use Rattle.plan.specs.Calls.{andThen}
+use Rattle.refusals.specs.Outcome.{andThen}
 use Rattle.beginning.proofs.Answers.{begin-judged}
 use Rattle.beginning.proofs.beginning.judge_begin.Statement.{statement}
 use Rattle.beginning.proofs.beginning.judge_begin.Tie as tie

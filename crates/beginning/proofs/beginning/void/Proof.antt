@@ -3,7 +3,7 @@
 use mathlib.Core.Path.{ap}
 use mathlib.Core.Bool.{false}
 use borrow.Author.Needs.{needs}
-use Rattle.plan.specs.Outcome.{taken}
+use Rattle.refusals.specs.Outcome.{taken}
 use Rattle.protocol.specs.Calls.{voidRecord}
 use Rattle.beginning.proofs.beginning.void.Statement.{statement}
 use Rattle.beginning.proofs.beginning.void.Tie as tie

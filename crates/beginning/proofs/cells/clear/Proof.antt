@@ -29,12 +29,6 @@ loop-holds c =
 slice-write-cells : tie.Need-slice-write-cells Inv-loop μ-loop
 slice-write-cells c = omega (arith, c .before .loop .inv .3)
 
-add-i : tie.Need-add-i Inv-loop μ-loop
-add-i c = omega arith
-
-loop-less : tie.Need-loop-less Inv-loop μ-loop
-loop-less c = omega arith
-
 loop-again : tie.Need-loop-again Inv-loop μ-loop
 unfolding blank
 loop-again c =
@@ -69,8 +63,8 @@ clear-spec =
     (λ c κs. search needs)
     loop-holds
     slice-write-cells
-    add-i
-    loop-less
+    (λ c. omega arith)
+    (λ c. omega arith)
     loop-again
     same-length
     returns)

@@ -2,9 +2,8 @@
 -- Assumes nothing.
 use mathlib.Core.Path.{sym, ap, ap₂, _∙_}
 use borrow.Author.Needs.{needs}
-use Rattle.plan.specs.Outcome.{refusal, verdict}
-use Rattle.plan.specs.Calls.{andThen}
-use Rattle.plan.proofs.Outcomes.{refusal-number}
+use Rattle.refusals.specs.Outcome.{refusal, verdict, andThen}
+use Rattle.refusals.proofs.Outcomes.{refusal-number}
 use Rattle.protocol.specs.Answers.{dealtSays}
 use Rattle.beginning.proofs.Answers.{deal-refused, deal-taken}
 use Rattle.beginning.proofs.dealing.deal.Statement.{statement}

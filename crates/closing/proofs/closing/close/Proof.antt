@@ -2,9 +2,9 @@
 -- Assumes nothing.
 use mathlib.Core.Path.{sym, ap, _∙_}
 use borrow.Author.Needs.{needs}
-use Rattle.plan.specs.Outcome.{Outcome, taken, refusal, verdict}
-use Rattle.plan.proofs.Outcomes.{refusal-number}
-use Rattle.protocol.specs.Rounds.{Board}
+use Rattle.refusals.specs.Outcome.{Outcome, taken, refusal, verdict}
+use Rattle.refusals.proofs.Outcomes.{refusal-number}
+use Rattle.protocol.specs.Rounds.{boardWith, Board}
 use Rattle.protocol.specs.Calls.{closedValues}
 use Rattle.protocol.specs.Answers.{closingSays}
 use Rattle.protocol.proofs.Judgement.{open-facts, record-good}
@@ -17,7 +17,7 @@ unfolding verdict
 close-round-requires c κs =
     let judged = c .before .before .before in
     let a = judged .before .before .before .args in
-    let o : Board = record { rec = a.r; cells = a.cells .now } in
+    let o : Board = boardWith a.r (a.cells .now) in
     let ok = ap verdict (sym (c .before .enum-told .given .1)) ∙ judged .judge-open .ensures in
     let f = open-facts o (ap (λ (x : Outcome). x .number) (sym ok)) in
     (record-good a.r (f .good), f .room)
@@ -28,7 +28,7 @@ returns c =
     let judged = c .before .before .before in
     let a = judged .before .before .before .args in
     let why = c .before .why .given in
-    close-refused (record { rec = a.r; cells = a.cells .now }) (refusal (why .0 .0))
+    close-refused (boardWith a.r (a.cells .now)) (refusal (why .0 .0))
     (ap verdict (sym (why .1)) ∙ judged .judge-open .ensures) (refusal-number (why .0 .0))
 
 returns-2 : tie.Need-returns-2
@@ -38,7 +38,7 @@ returns-2 c =
     let told = closed .before .before in
     let judged = told .before .before in
     let a = judged .before .before .before .args in
-    let o : Board = record { rec = a.r; cells = a.cells .now } in
+    let o : Board = boardWith a.r (a.cells .now) in
     let (x, y, z) = close-taken o (ap verdict (sym (told .enum-told .given .1)) ∙ judged .judge-open .ensures) in
     let e = closed .close-round .ensures in
     (c .answer-of .ensures ∙ ap (λ r. taken (closedValues r)) (e .0) ∙ x, e .0 ∙ y, e .1 ∙ z)

@@ -1,15 +1,14 @@
 -- `close_round` meets its contract: the next round, or conversion.
 -- Assumes nothing.
 use mathlib.Core.Path.{sym, ap, ap₂, _∙_}
-use mathlib.Core.List.{[]}
 use native.Mathlib.Omega.{arith}
 use borrow.Author.Needs.{needs}
-use Rattle.plan.specs.declared.schedule.Round.{Round}
+use Rattle.schedule.specs.declared.rounds.Round.{Round}
 use Rattle.protocol.specs.Records.{advanced}
-use Rattle.protocol.specs.Rounds.{Board, gather, nextRound, convert}
+use Rattle.protocol.specs.Rounds.{boardWith, Board, gather, nextRound, convert}
 use Rattle.protocol.proofs.Judgement.{good-record}
 use Rattle.frames.proofs.Standing.{good-stands}
-use Rattle.closing.specs.Gathered.{gathered}
+use Rattle.gathering.specs.Gathered.{gathered}
 use Rattle.closing.proofs.Answers.{close-next, close-last}
 use Rattle.closing.proofs.closing.close_round.Statement.{statement}
 use Rattle.closing.proofs.closing.close_round.Tie as tie
@@ -37,15 +36,12 @@ returns c =
     let gone = known .before .before in
     let held = gone .before .before .before in
     let a = held .before .before .args in
-    let o : Board = record { rec = a.r; cells = a.cells .now } in
+    let o : Board = boardWith a.r (a.cells .now) in
     let e = close-next o (omega (arith, ap (λ (k : Round). k .0) (more .before .last-round .ensures), more .if1 .taken)) in
     let g = gone .gather-round .ensures in (
       c .next-round .ensures ∙ ap (advanced a.r) (g .list-is) ∙ sym (ap (λ (x : Board). x .rec) e),
       g .cells-are ∙ sym (ap (λ (x : Board). x .cells) e),
     )
-
-convert-round-requires : tie.Need-convert-round-requires
-convert-round-requires c κs = search needs
 
 returns-2 : tie.Need-returns-2
 unfolding gather gathered convert
@@ -56,15 +52,15 @@ returns-2 c =
     let gone = known .before .before in
     let held = gone .before .before .before in
     let a = held .before .before .args in
-    let o : Board = record { rec = a.r; cells = a.cells .now } in
+    let o : Board = boardWith a.r (a.cells .now) in
     let e = close-last o (omega (arith, ap (λ (k : Round). k .0) (last .before .last-round .ensures), last .if1 .left)) in
     let g = gone .gather-round .ensures in
     let v = made .convert-round .ensures in (
-      v .0 ∙ ap₂ (λ d x. convert a.r (record { detected = d; cells = x }) .rec) (g .list-is) (g .cells-are) ∙ sym (ap (λ (x : Board). x .rec) e),
-      v .1 ∙ ap₂ (λ d x. convert a.r (record { detected = d; cells = x }) .cells) (g .list-is) (g .cells-are) ∙ sym (ap (λ (x : Board). x .cells) e),
+      v .0 ∙ ap₂ (λ d x. convert o (record { detected = d; cells = x }) .rec) (g .list-is) (g .cells-are) ∙ sym (ap (λ (x : Board). x .rec) e),
+      v .1 ∙ ap₂ (λ d x. convert o (record { detected = d; cells = x }) .cells) (g .list-is) (g .cells-are) ∙ sym (ap (λ (x : Board). x .cells) e),
     )
 
 pub close-round-spec : {M : Type 1} → statement M
 close-round-spec =
     tie.close
-    (tie.spec (λ c κs. search needs) (λ c. search needs) gather-round-requires (λ c κs. search needs) next-round-requires (λ c. search needs) returns (λ c. search needs) convert-round-requires (λ c. search needs) returns-2)
+    (tie.spec (λ c κs. search needs) (λ c. search needs) gather-round-requires (λ c κs. search needs) next-round-requires (λ c. search needs) returns (λ c. search needs) (λ c κs. search needs) (λ c. search needs) returns-2)

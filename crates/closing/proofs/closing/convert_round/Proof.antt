@@ -8,7 +8,7 @@ use Rattle.protocol.specs.Records.{runEnded}
 use Rattle.protocol.specs.Rounds.{convert}
 use Rattle.protocol.proofs.Judgement.{good-record, good-dealer}
 use Rattle.frames.proofs.Standing.{good-stands}
-use Rattle.closing.proofs.Gathering.{convertible, root-kept}
+use Rattle.closing.proofs.Converting.{convertible, root-kept}
 use Rattle.closing.proofs.closing.convert_round.Statement.{statement}
 use Rattle.closing.proofs.closing.convert_round.Tie as tie
 
@@ -24,7 +24,7 @@ keep-root-requires c κs =
     let made = c .before .before .before in
     let called = made .before .before in
     let e = called .before .before in
-    (good-record (e .args .r) (e .pre .0) .plan-good, omega (arith, e .pre .2, made .convert-cells .kept .1 .1 .1 .1 .0))
+    (good-record (e .args .r) (e .pre .0) .plan-good, omega (arith, e .pre .2, made .convert-cells .kept .1 .1 .1 .1 .1 .1 .0))
 
 returns : tie.Need-returns
 unfolding convert
@@ -39,7 +39,7 @@ returns c =
     let v = x .ensures in (
       c .next-run .ensures ∙ ap₂ (runEnded a.r) (v .list-is) (v .root-is),
       kept .keep-root .ensures
-          ∙ root-kept (a.r .plan) (a.r .board) a.list _ _ (a.cells .now) _ (good-dealer a.r (good-record a.r (e .pre .0))) v,
+          ∙ root-kept (a.r .plan) (a.r .board) (a.r .run) (a.r .round) a.list _ _ (a.cells .now) _ (good-dealer a.r (good-record a.r (e .pre .0))) v,
     )
 
 pub convert-round-spec : {M : Type 1} → statement M

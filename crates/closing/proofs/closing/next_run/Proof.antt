@@ -5,7 +5,7 @@ use mathlib.Core.Path.{refl, sym, ap, _∙_}
 use native.Mathlib.Omega.{arith}
 use borrow.Author.Needs.{needs}
 use borrow.Author.Tests.{eq-eqb, ne-eqb}
-use Rattle.plan.specs.declared.schedule.Run.{Run}
+use Rattle.schedule.specs.declared.rounds.Run.{Run}
 use Rattle.protocol.specs.Records.{runEnded}
 use Rattle.protocol.specs.Rounds.{}
 use Rattle.protocol.proofs.Judgement.{good-record}

@@ -3,18 +3,18 @@
 use Prim.Native.Nat.{_-_, _<_}
 use mathlib.Core.Path.{_≡_, sym, ap, _∙_}
 use native.Mathlib.Omega.{arith}
-use Rattle.plan.specs.Schedule.{rounds}
+use Rattle.schedule.specs.Schedule.{rounds}
 use Rattle.conversion.specs.Reading.{levelsBy}
 use Rattle.conversion.proofs.Level.{levels-step, levels-done}
 use Rattle.conversion.proofs.rule_c.detect_levels.Statement.{statement}
 use Rattle.conversion.proofs.rule_c.detect_levels.Tie as tie
 
 abbrev Inv-loop : tie.InvT-loop
-Inv-loop plan holders board top list cells detected₀ level₀ detected level =
-    (level < top) × (levelsBy plan board cells level detected ≡ levelsBy plan board cells (rounds plan .0 - 1) list)
+Inv-loop plan holders board run round top list cells detected₀ level₀ detected level =
+    (level < top) × (levelsBy plan board run round cells level detected ≡ levelsBy plan board run round cells (rounds plan .0 - 1) list)
 
 abbrev μ-loop : tie.MeasureT-loop
-μ-loop plan holders board top list cells detected₀ level₀ detected level = level
+μ-loop plan holders board run round top list cells detected₀ level₀ detected level = level
 
 sub-level : tie.Need-sub-level Inv-loop μ-loop
 sub-level c = let s = c .before .before in omega (arith, s .pre .0 .some-round, s .pre .1)
@@ -23,7 +23,7 @@ loop-holds : tie.Need-loop-holds Inv-loop μ-loop
 loop-holds c =
     let s = c .before .before in
     let a = s .args in
-    (omega (arith, s .pre .0 .some-round, s .pre .1), ap (λ k. levelsBy a.plan a.board (a.cells .now) (k - 1) a.list) (s .pre .1))
+    (omega (arith, s .pre .0 .some-round, s .pre .1), ap (λ k. levelsBy a.plan a.board a.run a.round (a.cells .now) (k - 1) a.list) (s .pre .1))
 
 detect-level-requires : tie.Need-detect-level-requires Inv-loop μ-loop
 detect-level-requires c κs =
@@ -37,14 +37,14 @@ loop-again c =
     let l = x .before .loop in
     let first = x .before .before in
     let a = first .before .before .args in
-    (omega arith, levels-step a.plan a.board (a.cells .now) l.level l.detected (c .detect-level .result) (omega arith) (c .detect-level .ensures) ∙ l .inv .1)
+    (omega arith, levels-step a.plan a.board a.run a.round (a.cells .now) l.level l.detected (c .detect-level .result) (omega arith) (c .detect-level .ensures) ∙ l .inv .1)
 
 returns : tie.Need-returns Inv-loop μ-loop
 returns c =
     let l = c .before .loop in
     let first = c .before .before in
     let a = first .before .before .args in
-    sym (levels-done a.plan a.board (a.cells .now) l.level l.detected (omega arith)) ∙ l .inv .1
+    sym (levels-done a.plan a.board a.run a.round (a.cells .now) l.level l.detected (omega arith)) ∙ l .inv .1
 
 pub detect-levels-spec : {M : Type 1} → statement M
 detect-levels-spec =

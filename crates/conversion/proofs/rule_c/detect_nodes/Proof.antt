@@ -9,17 +9,17 @@ use borrow.Author.Needs.{needs}
 use Rattle.sets.proofs.Tests.{not-t, not-f}
 use Rattle.protocol.specs.Nodes.{inner}
 use Rattle.conversion.specs.Reading.{detectBy}
-use Rattle.conversion.proofs.Steps.{tabled}
+use Rattle.resolving.proofs.Steps.{tabled}
 use Rattle.conversion.proofs.Level.{level-fits, level-most, index-fits, from-fits, beside, passes-here, node-kept, node-joined, nodes-done}
 use Rattle.conversion.proofs.rule_c.detect_nodes.Statement.{statement}
 use Rattle.conversion.proofs.rule_c.detect_nodes.Tie as tie
 
 abbrev Inv-loop : tie.InvT-loop
-Inv-loop plan holders board level nodes list cells start width detected₀ i₀ detected i =
-    detectBy plan cells (drop i (inner plan board level)) detected ≡ detectBy plan cells (inner plan board level) list
+Inv-loop plan holders board run round level nodes list cells start width detected₀ i₀ detected i =
+    detectBy plan run round cells (drop i (inner plan board level)) detected ≡ detectBy plan run round cells (inner plan board level) list
 
 abbrev μ-loop : tie.MeasureT-loop
-μ-loop plan holders board level nodes list cells start width detected₀ i₀ detected i = length nodes - i
+μ-loop plan holders board run round level nodes list cells start width detected₀ i₀ detected i = length nodes - i
 
 add-level-start : tie.Need-add-level-start Inv-loop μ-loop
 add-level-start c = let s = c .before .before .before in level-fits (s .pre .0) (s .pre .1)
@@ -65,8 +65,8 @@ loop-again c =
     let l = x .before .loop in
     let r = passes-here (s .pre .0) (s .pre .1) l.i (x .loop-test .taken) (e .level-start .ensures) (y .index-of .ensures) l.detected (c .before .passes .ensures) in
     ⊎-elim
-    (λ w. node-joined (s .pre .0) (s .pre .1) l.i (x .loop-test .taken) l.detected (c .if1 .detected) (w .1 .result) (r ∙ not-t _ (w .0 .taken)) (w .1 .ensures) (w .2) ∙ l .inv)
-    (λ w. node-kept (s .pre .0) (s .pre .1) l.i (x .loop-test .taken) l.detected (c .if1 .detected) (r ∙ not-f _ (w .0 .left)) (w .1) ∙ l .inv)
+    (λ w. node-joined (s .pre .0) (s .pre .1) l.i (x .loop-test .taken) (s .args .run) (s .args .round) l.detected (c .if1 .detected) (w .1 .result) (r ∙ not-t _ (w .0 .taken)) (w .1 .ensures) (w .3 ∙ w .2 .ensures) ∙ l .inv)
+    (λ w. node-kept (s .pre .0) (s .pre .1) l.i (x .loop-test .taken) (s .args .run) (s .args .round) l.detected (c .if1 .detected) (r ∙ not-f _ (w .0 .left)) (w .1) ∙ l .inv)
     (c .if1 .came)
 
 returns : tie.Need-returns Inv-loop μ-loop
@@ -75,7 +75,7 @@ returns c =
     let e = c .before .before .before in
     let known = e .before in
     let s = known .before .before .before in
-    sym (nodes-done (s .pre .0) (s .pre .1) l.i l.detected (c .loop-test .left)) ∙ l .inv
+    sym (nodes-done (s .pre .0) (s .pre .1) (s .args .run) (s .args .round) l.i l.detected (c .loop-test .left)) ∙ l .inv
 
 pub detect-nodes-spec : {M : Type 1} → statement M
 detect-nodes-spec =

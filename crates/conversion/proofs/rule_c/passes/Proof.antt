@@ -1,8 +1,11 @@
 -- `passes` meets its contract.
 -- Assumes nothing.
-use mathlib.Core.Path.{sym, ap, _∙_, subst}
+use Prim.Native.Nat.{_/_, _%_}
+use mathlib.Core.Path.{_≡_, sym, ap, ap₂, _∙_, subst}
+use mathlib.Core.Bool.{true, false}
 use borrow.Author.Needs.{needs}
 use Rattle.sets.specs.Sets.{member}
+use Rattle.voting.specs.Tables.{explainedBy}
 use Rattle.conversion.specs.Contracts.{Beside}
 use Rattle.conversion.proofs.Level.{passes-listed, passes-explained}
 use Rattle.conversion.proofs.rule_c.passes.Statement.{statement}
@@ -11,13 +14,16 @@ use Rattle.conversion.proofs.rule_c.passes.Tie as tie
 returns : tie.Need-returns
 returns c =
     let x = c .before .before in
-    let a = x .before .before .before .args in
-    passes-listed a.plan (a.cells .now) a.from a.node a.list (ap (λ q. member q a.list) (sym (x .last-of .ensures)) ∙ sym (c .before .has .ensures) ∙ c .if1 .taken)
+    let set = x .before in
+    let a = set .before .before .before .args in
+    let on : member (a.node / 128 % 8) a.list ≡ true =
+    ap₂ member (sym (x .last-of .ensures)) (sym (set .as-set .ensures)) ∙ sym (c .before .has .ensures) ∙ c .if1 .taken in
+    passes-listed a.plan (a.cells .now) a.from a.node a.list on
 
 child-cells-requires : tie.Need-child-cells-requires
 child-cells-requires c κs =
-    let asks = c .before .before .before in
-    let s = asks .before .before .before in
+    let set = c .before .before .before .before in
+    let s = set .before .before .before in
     let a = s .args in
     subst (λ b. Beside (a.plan .n) b a.from (a.cells .now)) (sym (c .boards-of .ensures)) (s .pre .1)
 
@@ -26,10 +32,13 @@ returns-2 c =
     let y = c .before .before in
     let x = y .before .before in
     let asks = x .before in
-    let a = asks .before .before .before .args in
+    let set = asks .before in
+    let a = set .before .before .before .args in
+    let out : member (a.node / 128 % 8) a.list ≡ false =
+    ap₂ member (sym (asks .last-of .ensures)) (sym (set .as-set .ensures)) ∙ sym (x .has .ensures) ∙ y .before .if1 .left in
     c .explained-by .ensures
-    ∙ passes-explained a.plan (a.cells .now) a.from a.node a.list (y .boards-of .result) (c .before .child-cells .result)
-    (ap (λ q. member q a.list) (sym (asks .last-of .ensures)) ∙ sym (x .has .ensures) ∙ y .before .if1 .left)
+    ∙ ap (explainedBy a.plan (y .boards-of .result) (c .before .child-cells .result)) (set .as-set .ensures)
+    ∙ passes-explained a.plan (a.cells .now) a.from a.node a.list (y .boards-of .result) (c .before .child-cells .result) out
     (y .boards-of .ensures)
     (c .before .child-cells .ensures)
 
@@ -37,6 +46,7 @@ pub passes-spec : {M : Type 1} → statement M
 passes-spec =
     tie.close
     (tie.spec
+    (λ c κs. search needs)
     (λ c κs. search needs)
     (λ c κs. search needs)
     returns

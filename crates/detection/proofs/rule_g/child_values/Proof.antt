@@ -1,16 +1,13 @@
 -- `child_values` meets its contract: the loop has read the children below c, and `at` is where the next one stands.
 -- Assumes nothing.
-use Prim.Native.Nat.{_+_, _-_, _≤_, _<_}
-use mathlib.Core.Path.{_≡_, refl, sym, ap, ap₂, _∙_}
+use Prim.Native.Nat.{_+_, _-_, _≤_}
+use mathlib.Core.Path.{_≡_, sym, ap, _∙_}
 use mathlib.Core.Logic.{⊎-elim}
-use mathlib.Core.Bool.{false}
 use native.Mathlib.Omega.{arith}
-use lib.ListN.{length}
 use borrow.Author.Needs.{needs}
-use Rattle.sets.specs.Sets.{member}
 use Rattle.sets.proofs.Tests.{not-t, not-f}
 use Rattle.tree.specs.Places.{outsideBelow}
-use Rattle.tree.proofs.Boards.{outside-zero, outside-le, outside-more, outside-skip}
+use Rattle.tree.proofs.Boards.{outside-zero, outside-more, outside-skip}
 use Rattle.voting.specs.Worth.{table}
 use Rattle.voting.proofs.Table.{table-zero, table-skip}
 use Rattle.detection.specs.Visits.{kid}

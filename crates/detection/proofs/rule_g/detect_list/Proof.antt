@@ -1,14 +1,14 @@
 -- `detect_list` meets its contract: the rule over what is left of the list gives the same as over all of it.
 -- Assumes nothing.
-use Prim.Native.Nat.{ℕ, _+_, _-_, _≤_, _<_}
+use Prim.Native.Nat.{ℕ, _+_, _-_, _≤_}
 use mathlib.Core.Path.{_≡_, refl, sym, ap, ap₂, _∙_}
-use mathlib.Core.List.{List, [], _∷_}
+use mathlib.Core.List.{List, []}
 use native.Mathlib.Omega.{arith}
 use mir.Syntax.{w8}
 use mir.Val.{Fits}
 use lib.ListN.{length, getD, drop, drop-of-length-le}
 use borrow.Author.Needs.{needs}
-use Rattle.protocol.specs.Detection.{Scan, detect1, detectAll1}
+use Rattle.protocol.specs.Detection.{Scan, detectAll1}
 use Rattle.frames.specs.Nodes.{nodeAt, labelsOf}
 use Rattle.frames.proofs.Listed.{labels-drop, labels-length}
 use Rattle.detection.proofs.Kids.{visiting}
@@ -16,14 +16,14 @@ use Rattle.detection.proofs.rule_g.detect_list.Statement.{statement}
 use Rattle.detection.proofs.rule_g.detect_list.Tie as tie
 
 abbrev Inv-loop : tie.InvT-loop
-Inv-loop plan holders board round nodes list cells₀ start detected₀ i₀ cells detected i =
+Inv-loop plan holders board run round nodes list cells₀ start detected₀ i₀ cells detected i =
     let αs = labelsOf plan (round .0 - 1) nodes in
     (i ≤ length nodes)
     × (length cells ≡ length cells₀)
-    × (detectAll1 plan board (drop i αs) (record { detected = detected; cells = cells }) ≡ detectAll1 plan board αs (record { detected = list; cells = cells₀ }))
+    × (detectAll1 plan board run round (drop i αs) (record { detected = detected; cells = cells }) ≡ detectAll1 plan board run round αs (record { detected = list; cells = cells₀ }))
 
 abbrev μ-loop : tie.MeasureT-loop
-μ-loop plan holders board round nodes list cells₀ start detected₀ i₀ cells detected i = length nodes - i
+μ-loop plan holders board run round nodes list cells₀ start detected₀ i₀ cells detected i = length nodes - i
 
 loop-holds : tie.Need-loop-holds Inv-loop μ-loop
 loop-holds c = (omega arith, refl, refl)
@@ -51,9 +51,9 @@ loop-again c =
     let now : Scan = record { detected = l.detected; cells = l.cells } in
     let toScan : ℕ → List ℕ → Scan = λ d cs. record { detected = d; cells = cs } in (
       omega arith,
-      x .kept .1 .1 .1 .1 .1 .1 .1 .0 ∙ l .inv .1,
-      ap₂ (λ d cs. detectAll1 a.plan a.board (drop (l.i + 1) αs) (toScan d cs)) (x .ensures .0) (x .ensures .1)
-          ∙ sym (ap (λ βs. detectAll1 a.plan a.board βs now) (labels-drop a.plan level l.i (a.nodes .now) (omega arith)))
+      x .kept .1 .1 .1 .1 .1 .1 .1 .1 .0 ∙ l .inv .1,
+      ap₂ (λ d cs. detectAll1 a.plan a.board a.run a.round (drop (l.i + 1) αs) (toScan d cs)) (x .ensures .0) (x .ensures .1)
+          ∙ sym (ap (λ βs. detectAll1 a.plan a.board a.run a.round βs now) (labels-drop a.plan level l.i (a.nodes .now) (omega arith)))
           ∙ l .inv .2,
     )
 
@@ -64,7 +64,7 @@ returns c =
     let a = c .before .before .before .before .before .before .args in
     let αs = labelsOf a.plan (a.round .0 - 1) (a.nodes .now) in
     let end : drop l.i αs ≡ [] = drop-of-length-le αs (let z : length αs ≤ l.i = omega (arith, labels-length a.plan (a.round .0 - 1) (a.nodes .now)) in z) in
-    let done = sym (ap (λ βs. detectAll1 a.plan a.board βs (record { detected = l.detected; cells = l.cells })) end) ∙ l .inv .2 in
+    let done = sym (ap (λ βs. detectAll1 a.plan a.board a.run a.round βs (record { detected = l.detected; cells = l.cells })) end) ∙ l .inv .2 in
     (ap (λ (s : Scan). s .detected) done, ap (λ (s : Scan). s .cells) done)
 
 pub detect-list-spec : {M : Type 1} → statement M

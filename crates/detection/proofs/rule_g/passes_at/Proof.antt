@@ -2,7 +2,7 @@
 -- Assumes nothing.
 use Prim.Native.Nat.{_%_}
 use mathlib.Core.Path.{_≡_, sym, subst, ap, ap₂, _∙_}
-use mathlib.Core.Bool.{false, _||_}
+use mathlib.Core.Bool.{true, false, _||_}
 use borrow.Author.Needs.{needs}
 use Rattle.sets.specs.Sets.{member}
 use Rattle.tree.specs.Labels.{last}
@@ -18,16 +18,20 @@ use Rattle.detection.proofs.rule_g.passes_at.Tie as tie
 returns : tie.Need-returns
 unfolding passes
 returns c =
-    let e = c .before .before .before .before .before in
-    sym (ap (λ b. b || explained (e .args .plan) (nodeAt (e .args .plan) (e .args .level) (e .args .node)) (byCell (e .args .plan) (e .args .cells .now) (nodeAt (e .args .plan) (e .args .level) (e .args .node))) (e .args .list))
-    (ap (λ q. member q (e .args .list)) (sym (c .before .before .last-of .ensures ∙ e .pre .is-node .end)) ∙ sym (c .before .has .ensures) ∙ c .if1 .taken))
+    let e = c .before .before .before .before .before .before in
+    let list = c .before .before .before .as-set in
+    let a = e .args in
+    let α = nodeAt a.plan a.level a.node in
+    let end : c .before .before .last-of .result ≡ last α = c .before .before .last-of .ensures ∙ e .pre .is-node .end in
+    let on : member (last α) a.list ≡ true = ap₂ member (sym end) (sym (list .ensures)) ∙ sym (c .before .has .ensures) ∙ c .if1 .taken in
+    sym (ap (λ b. b || explained a.plan α (byCell a.plan (a.cells .now) α) a.list) on)
 
 first-child-requires : tie.Need-first-child-requires
-first-child-requires c κs = let e = c .before .before .before .before .before .before in (e .pre .level-below, start-fits (e .pre))
+first-child-requires c κs = let e = c .before .before .before .before .before .before .before in (e .pre .level-below, start-fits (e .pre))
 
 child-values-requires : tie.Need-child-values-requires
 child-values-requires c κs =
-    let e = c .before .before .before .before .before .before .before in (
+    let e = c .before .before .before .before .before .before .before .before in (
       e .pre .tabled .most-boards,
       subst (λ s. Kids (e .args .plan) s (c .first-child .result) (e .args .cells .now)) (sym (c .before .boards-of .ensures))
           (subst (λ k. Kids (e .args .plan) (e .args .node % 128) k (e .args .cells .now)) (sym (c .first-child .ensures)) (kids-there (e .pre))),
@@ -36,12 +40,15 @@ child-values-requires c κs =
 returns-2 : tie.Need-returns-2
 unfolding passes
 returns-2 c =
-    let e = c .before .before .before .before .before .before .before .before .before in
+    let asked = c .before .before .before .before in
+    let e = asked .before .before .before .before .before .before in
+    let list = asked .before .before .before .as-set in
     let a = e .args in
     let α = nodeAt a.plan a.level a.node in
-    let out : member (last α) a.list ≡ false =
-    ap (λ q. member q a.list) (sym (c .before .before .before .before .before .before .last-of .ensures ∙ e .pre .is-node .end)) ∙ sym (c .before .before .before .before .before .has .ensures) ∙ c .before .before .before .before .if1 .left in
+    let end : asked .before .before .last-of .result ≡ last α = asked .before .before .last-of .ensures ∙ e .pre .is-node .end in
+    let out : member (last α) a.list ≡ false = ap₂ member (sym end) (sym (list .ensures)) ∙ sym (asked .before .has .ensures) ∙ asked .if1 .left in
     c .explained-by .ensures
+    ∙ ap (explainedBy a.plan (c .before .before .before .boards-of .result) (c .before .child-values .result)) (list .ensures)
     ∙ ap₂ (λ s t. explainedBy a.plan s t a.list) (c .before .before .before .boards-of .ensures)
     (c .before .child-values .ensures
     ∙ ap₂ (λ s k. table (kid a.plan s k (a.cells .now)) s (a.plan .n)) (c .before .before .before .boards-of .ensures) (c .before .before .first-child .ensures))
@@ -52,6 +59,7 @@ pub passes-at-spec : {M : Type 1} → statement M
 passes-at-spec =
     tie.close
     (tie.spec
+    (λ c κs. search needs)
     (λ c κs. search needs)
     (λ c κs. search needs)
     returns

@@ -61,6 +61,7 @@ use Rattle.flight.proofs.lent.close_lent.Key.{name as #flight·close-le
 use Rattle.flight.proofs.lent.close_lent as close-lent
 use Rattle.flight.proofs.lent.close_lent.Statement as stated
 use Rattle.flight.proofs.lent.close_lent.Code as code
+use Rattle.protocol.specs.Rounds.{boardWith}
 
 -- The record's type.
 abbrev R : RattleType
@@ -86,7 +87,7 @@ holds-answer out vs is = Fields.owed Out.the-type Out′.the-laws out vs is .0
 
 -- What `close` ensures of what it returns and of the cells that it leaves, at the record h and the cells ys.
 abbrev Ensured : Record → List ℕ → Closed → List ℕ → Type 0
-Ensured h ys out zs = (closingSays (out .answer) ≡ closing (record { rec = h; cells = ys }) .answer) × (out .rec ≡ closing (record { rec = h; cells = ys }) .board .rec) × (zs ≡ closing (record { rec = h; cells = ys }) .board .cells)
+Ensured h ys out zs = (closingSays (out .answer) ≡ closing (boardWith h ys) .answer) × (out .rec ≡ closing (boardWith h ys) .board .rec) × (zs ≡ closing (boardWith h ys) .board .cells)
 
 -- What is promised once its record is stored.
 abbrev Promised : Record → List ℕ → Closed → List ℕ → Type 0

@@ -3,8 +3,8 @@
 use mathlib.Core.Path.{sym, ap, _∙_}
 use borrow.Author.Needs.{needs}
 use borrow.Author.Tests.{ne-eqb}
-use Rattle.plan.specs.Outcome.{refusal, verdict}
-use Rattle.plan.proofs.Outcomes.{refusal-number}
+use Rattle.refusals.specs.Outcome.{refusal, verdict}
+use Rattle.refusals.proofs.Outcomes.{refusal-number}
 use Rattle.protocol.specs.Calls.{isTaken}
 use Rattle.judging.proofs.judging.is_accepted.Statement.{statement}
 use Rattle.judging.proofs.judging.is_accepted.Tie as tie

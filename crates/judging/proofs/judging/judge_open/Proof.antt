@@ -2,8 +2,8 @@
 -- Assumes nothing.
 use mathlib.Core.Path.{ap₂, _∙_}
 use borrow.Author.Needs.{needs}
-use Rattle.plan.specs.Calls.{andThen}
-use Rattle.protocol.specs.Rounds.{Board}
+use Rattle.refusals.specs.Outcome.{andThen}
+use Rattle.protocol.specs.Rounds.{boardWith, Board}
 use Rattle.judging.proofs.Judged.{open-judged}
 use Rattle.judging.proofs.judging.judge_open.Statement.{statement}
 use Rattle.judging.proofs.judging.judge_open.Tie as tie
@@ -13,7 +13,7 @@ returns c =
     let later = c .before .before in
     let first = later .before .before in
     let a = first .before .before .args in
-    let o : Board = record { rec = a.r; cells = a.cells .now } in
+    let o : Board = boardWith a.r (a.cells .now) in
     c .first-of2 .ensures
     ∙ ap₂ andThen (first .judge-record .ensures) (c .before .first-of .ensures ∙ ap₂ andThen (later .before .judge-cells .ensures) (later .judge-decided .ensures))
     ∙ open-judged o

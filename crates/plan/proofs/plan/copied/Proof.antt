@@ -31,18 +31,6 @@ abbrev μ-loop : tie.MeasureT-loop
 loop-holds : tie.Need-loop-holds Inv-loop μ-loop
 loop-holds c = (omega arith, refl)
 
-shared-slice-read-slots : tie.Need-shared-slice-read-slots Inv-loop μ-loop
-shared-slice-read-slots c = omega arith
-
-array-write-slots : tie.Need-array-write-slots Inv-loop μ-loop
-array-write-slots c = omega arith
-
-add-i : tie.Need-add-i Inv-loop μ-loop
-add-i c = omega arith
-
-loop-less : tie.Need-loop-less Inv-loop μ-loop
-loop-less c = omega arith
-
 loop-again : tie.Need-loop-again Inv-loop μ-loop
 loop-again c =
     let sets = c .before .before .before .args .sets .now in
@@ -63,9 +51,9 @@ copied-spec =
     Inv-loop
     μ-loop
     loop-holds
-    shared-slice-read-slots
-    array-write-slots
-    add-i
-    loop-less
+    (λ c. omega arith)
+    (λ c. omega arith)
+    (λ c. omega arith)
+    (λ c. omega arith)
     loop-again
     returns)

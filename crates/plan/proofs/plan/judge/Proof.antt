@@ -1,24 +1,12 @@
-use Rattle.plan.specs.Calls.{admitting}
-use Rattle.plan.proofs.Outcomes.{taken-first, refused-first, refusal-number}
+use Rattle.admission.specs.Calls.{admitting}
+use Rattle.refusals.proofs.Outcomes.{taken-first, refused-first, refusal-number}
 use mathlib.Core.Path.{sym, ap, _∙_}
 use lib.ListN.{length}
-use Rattle.plan.specs.Outcome.{verdict}
+use Rattle.refusals.specs.Outcome.{verdict}
 use Rattle.plan.specs.Calls.{planning, judgeSettings}
 use borrow.Author.Needs.{needs}
 use Rattle.plan.proofs.plan.judge.Statement.{statement}
 use Rattle.plan.proofs.plan.judge.Tie as tie
-
-admit-requires : tie.Need-admit-requires
-admit-requires c κs = search needs
-
-enum-told : tie.Need-enum-told
-enum-told c = search needs
-
-judge-settings-requires : tie.Need-judge-settings-requires
-judge-settings-requires c κs = search needs
-
-enum-known-answer : tie.Need-enum-known-answer
-enum-known-answer c = search needs
 
 returns : tie.Need-returns
 unfolding planning verdict
@@ -37,4 +25,4 @@ returns-2 c =
 pub judge-spec : {M : Type 1} → statement M
 judge-spec =
     tie.close
-    (tie.spec admit-requires enum-told judge-settings-requires enum-known-answer returns returns-2)
+    (tie.spec (λ c κs. search needs) (λ c. search needs) (λ c κs. search needs) (λ c. search needs) returns returns-2)

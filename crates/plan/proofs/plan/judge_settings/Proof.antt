@@ -1,5 +1,5 @@
 use borrow.Author.Tests.{lt-ltb, le-ltb, le-leb, lt-leb, eq-eqb, ne-eqb}
-use Rattle.plan.specs.Outcome.{verdict, refusal}
+use Rattle.refusals.specs.Outcome.{verdict, refusal}
 use Rattle.plan.specs.Calls.{judgeSettings, isDepth}
 use Rattle.plan.proofs.plan.judge_settings.Statement.{statement}
 use Rattle.plan.proofs.plan.judge_settings.Tie as tie

@@ -38,41 +38,25 @@ loop-holds c =
     let none = lines-none (printHead a.n a.dealer a.faulty a.word) (boardsOf a.t5) in
     (omega arith, sym (ap length none), sym (ap (sets (a.out .now) 0) none))
 
-cast-r : tie.Need-cast-r Inv-loop μ-loop
-cast-r c = search needs
-
 mul-r : tie.Need-mul-r Inv-loop μ-loop
 mul-r c = record { fits = omega arith }
 
-array-copy-out-r : tie.Need-array-copy-out-r Inv-loop μ-loop
-array-copy-out-r c = omega arith
-
-has-requires : tie.Need-has-requires Inv-loop μ-loop
-has-requires c κs = search needs
-
-shown-requires : tie.Need-shown-requires Inv-loop μ-loop
-shown-requires c κs = search needs
-
-shown-requires-2 : tie.Need-shown-requires-2 Inv-loop μ-loop
-shown-requires-2 c κs = search needs
-
 print-line-requires : tie.Need-print-line-requires Inv-loop μ-loop
 print-line-requires c κs =
-    let a = c .before .before .before .before .before .before .before .before .before .before .before .args in
-    let l = c .before .before .before .before .before .before .before .loop in
+    let listed = c .before .before in
+    let turn = listed .before .before .before .before .before .before in
+    let l = turn .loop in
+    let a = turn .before .before .before .before .args in
     omega (arith, l .inv .1, print-short (printHead a.n a.dealer a.faulty a.word) (boardsOf a.t5) l.i, ap length (l .inv .2), length-sets (a.out .now) 0 (printBoards (printHead a.n a.dealer a.faulty a.word) (boardsOf a.t5) 0 l.i))
 
 add-used : tie.Need-add-used Inv-loop μ-loop
 add-used c =
-    let a = c .before .before .before .before .before .before .before .before .before .before .before .before .before .before .args in
-    let l = c .before .before .before .before .before .before .before .before .before .before .loop in
+    let printed = c .before .before .before in
+    let listed = printed .before .before in
+    let turn = listed .before .before .before .before .before .before in
+    let l = turn .loop in
+    let a = turn .before .before .before .before .args in
     record { fits = omega (arith, l .inv .1, print-short (printHead a.n a.dealer a.faulty a.word) (boardsOf a.t5) l.i) }
-
-add-i : tie.Need-add-i Inv-loop μ-loop
-add-i c = omega arith
-
-loop-less : tie.Need-loop-less Inv-loop μ-loop
-loop-less c = omega arith
 
 loop-again : tie.Need-loop-again Inv-loop μ-loop
 unfolding printHead
@@ -83,9 +67,9 @@ loop-again c =
     let b = boardsOf a.t5 in
     ⊎-elim
     (λ w. let f : member l.i a.faulty ≡ false = sym (c .before .has .ensures) ∙ not-t (c .before .has .result) (w .0 .taken) in
-    let line = line-shown h b l.i (w .1 .result) (w .2 .result) _ _ (w .1 .ensures) (w .2 .ensures) (decision-at a.t5 l.i _ refl) (detected-at a.t5 l.i _ refl) f in
-    let (u, o) = one-more h b l.i l.used (a.out .now) l.out _ _ (l .inv .1) (l .inv .2) f line (w .4 .ensures) in
-    (omega arith, w .8 ∙ u, w .7 ∙ o))
+    let line = line-shown h b l.i (w .1 .result) (w .3 .result) _ _ (w .1 .ensures) (w .3 .ensures) (decision-at a.t5 l.i _ refl) (w .2 .ensures ∙ detected-at a.t5 l.i _ refl) f in
+    let (u, o) = one-more h b l.i l.used (a.out .now) l.out _ _ (l .inv .1) (l .inv .2) f line (w .5 .ensures) in
+    (omega arith, w .9 ∙ u, w .8 ∙ o))
     (λ w. let f : member l.i a.faulty ≡ true = sym (c .before .has .ensures) ∙ not-f (c .before .has .result) (w .0 .left) in
     let e = none-more h b l.i f in
     (omega arith, w .2 ∙ l .inv .1 ∙ ap length e, w .1 ∙ l .inv .2 ∙ ap (sets (a.out .now) 0) e))
@@ -117,16 +101,17 @@ print-boards-spec =
     returns
     returns-2
     loop-holds
-    cast-r
+    (λ c. search needs)
     mul-r
-    array-copy-out-r
-    has-requires
-    shown-requires
-    shown-requires-2
+    (λ c. omega arith)
+    (λ c κs. search needs)
+    (λ c κs. search needs)
+    (λ c κs. search needs)
+    (λ c κs. search needs)
     print-line-requires
     add-used
-    add-i
-    loop-less
+    (λ c. omega arith)
+    (λ c. omega arith)
     loop-again
     same-length
     returns-3)

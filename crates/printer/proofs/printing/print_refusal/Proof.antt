@@ -6,31 +6,10 @@ use mathlib.Core.List.{[]}
 use lib.ListN.{set, length-set}
 use lib.Seq.{sets}
 use borrow.Author.Needs.{needs}
-use Rattle.protocol.specs.Playing.{hexByte}
+use Rattle.hex.specs.Hex.{hexByte}
 use Rattle.printer.proofs.Stores.{refusal-stores}
 use Rattle.printer.proofs.printing.print_refusal.Statement.{statement}
 use Rattle.printer.proofs.printing.print_refusal.Tie as tie
-
-print-byte-requires : tie.Need-print-byte-requires
-print-byte-requires c κs = search needs
-
-print-byte-requires-2 : tie.Need-print-byte-requires-2
-print-byte-requires-2 c κs = search needs
-
-cast-print-byte : tie.Need-cast-print-byte
-cast-print-byte c = search needs
-
-print-byte-requires-3 : tie.Need-print-byte-requires-3
-print-byte-requires-3 c κs = search needs
-
-cast-print-byte-2 : tie.Need-cast-print-byte-2
-cast-print-byte-2 c = search needs
-
-print-byte-requires-4 : tie.Need-print-byte-requires-4
-print-byte-requires-4 c κs = search needs
-
-slice-write-out : tie.Need-slice-write-out
-slice-write-out c = search needs
 
 same-length : tie.Need-same-length
 same-length c =
@@ -55,12 +34,12 @@ pub print-refusal-spec : {M : Type 1} → statement M
 print-refusal-spec =
     tie.close
     (tie.spec
-    print-byte-requires
-    print-byte-requires-2
-    cast-print-byte
-    print-byte-requires-3
-    cast-print-byte-2
-    print-byte-requires-4
-    slice-write-out
+    (λ c κs. search needs)
+    (λ c κs. search needs)
+    (λ c. search needs)
+    (λ c κs. search needs)
+    (λ c. search needs)
+    (λ c κs. search needs)
+    (λ c. search needs)
     same-length
     returns)

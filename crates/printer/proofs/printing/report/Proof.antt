@@ -5,17 +5,11 @@ use Rattle.printer.proofs.Reports.{report-over, report-written, report-
 use Rattle.printer.proofs.printing.report.Statement.{statement}
 use Rattle.printer.proofs.printing.report.Tie as tie
 
-enum-known-answer : tie.Need-enum-known-answer
-enum-known-answer c = search needs
-
 returns : tie.Need-returns
 returns c =
     let a = c .before .before .before .before .before .args in
     let g = c .before .before .answer .given in
     report-over a.answer (g .0 .0) (a.out .now) (g .1) (c .if1 .taken)
-
-enum-known-answer-2 : tie.Need-enum-known-answer-2
-enum-known-answer-2 c = search needs
 
 returns-2 : tie.Need-returns-2
 returns-2 c =
@@ -23,20 +17,11 @@ returns-2 c =
     let g = c .before .before .answer2 .given in
     report-short a.answer (g .0 .0) (g .0 .1 .0) (a.out .now) (g .1) (c .if2 .taken)
 
-number-of-requires : tie.Need-number-of-requires
-number-of-requires c κs = search needs
-
-print-refusal-requires : tie.Need-print-refusal-requires
-print-refusal-requires c κs = search needs
-
 returns-3 : tie.Need-returns-3
 returns-3 c =
     let a = c .before .before .before .before .before .args in
     let g = c .before .before .answer .given in
     report-written a.answer (g .0 .0) (a.out .now) (g .1) (c .if1 .left)
-
-same-length : tie.Need-same-length
-same-length c = search needs
 
 returns-4 : tie.Need-returns-4
 returns-4 c =
@@ -49,12 +34,12 @@ pub report-spec : {M : Type 1} → statement M
 report-spec =
     tie.close
     (tie.spec
-    enum-known-answer
+    (λ c. search needs)
     returns
-    enum-known-answer-2
+    (λ c. search needs)
     returns-2
-    number-of-requires
-    print-refusal-requires
+    (λ c κs. search needs)
+    (λ c κs. search needs)
     returns-3
-    same-length
+    (λ c. search needs)
     returns-4)

@@ -7,9 +7,6 @@ use borrow.Author.Needs.{needs}
 use Rattle.reader.proofs.judgement.is_expected.Statement.{statement}
 use Rattle.reader.proofs.judgement.is_expected.Tie as tie
 
-has-round-requires : tie.Need-has-round-requires
-has-round-requires c κs = search needs
-
 returns : tie.Need-returns
 returns c =
     let a = c .before .before .args in
@@ -40,4 +37,4 @@ returns-4 c =
 
 pub is-expected-spec : {M : Type 1} → statement M
 is-expected-spec =
-    tie.close (tie.spec has-round-requires returns returns-2 returns-3 (λ c κs. search needs) (λ c. search needs) is-due-requires returns-4)
+    tie.close (tie.spec (λ c κs. search needs) returns returns-2 returns-3 (λ c κs. search needs) (λ c. search needs) is-due-requires returns-4)

@@ -4,33 +4,19 @@ use mathlib.Core.Path.{_≡_, sym, ap, ap₂, _∙_}
 use native.Mathlib.Omega.{arith}
 use Rattle.sets.specs.Sets.{member}
 use Rattle.sets.proofs.Tests.{not-t, not-f}
-use Rattle.text.specs.Text.{byteAt}
-use Rattle.reader.specs.Reading.{lineKey, expected}
+use Rattle.hex.specs.Bytes.{byteAt}
+use Rattle.finding.specs.Frames.{lineKey}
+use Rattle.reader.specs.Reading.{expected}
 use Rattle.reader.proofs.FrameLines.{line-short, line-falls, line-healthy, line-faulty, line-rest}
 use borrow.Author.Needs.{needs}
 use Rattle.reader.proofs.judgement.is_good_frame.Statement.{statement}
 use Rattle.reader.proofs.judgement.is_good_frame.Tie as tie
-
-byte-at-requires : tie.Need-byte-at-requires
-byte-at-requires c κs = search needs
-
-byte-at-requires-2 : tie.Need-byte-at-requires-2
-byte-at-requires-2 c κs = search needs
-
-byte-at-requires-3 : tie.Need-byte-at-requires-3
-byte-at-requires-3 c κs = search needs
-
-byte-at-requires-4 : tie.Need-byte-at-requires-4
-byte-at-requires-4 c κs = search needs
 
 returns : tie.Need-returns
 returns c =
     let a = c .before .before .before .before .before .before .args in
     let line = a.line .now in
     line-short a.plan a.faulty a.least line (c .if1 .taken)
-
-key-of-requires : tie.Need-key-of-requires
-key-of-requires c κs = search needs
 
 returns-2 : tie.Need-returns-2
 unfolding lineKey
@@ -40,9 +26,6 @@ returns-2 c =
     let k : c .before .key-of .result ≡ lineKey line = c .before .key-of .ensures in
     line-falls a.plan a.faulty a.least line (c .before .before .if1 .left) (omega (arith, k, c .if2 .taken))
 
-has-requires : tie.Need-has-requires
-has-requires c κs = search needs
-
 returns-3 : tie.Need-returns-3
 unfolding lineKey
 returns-3 c =
@@ -51,9 +34,6 @@ returns-3 c =
     let k : c .before .before .before .key-of .result ≡ lineKey line = c .before .before .before .key-of .ensures in
     line-healthy a.plan a.faulty a.least line (c .before .before .before .before .if1 .left) (omega (arith, k, c .before .before .if2 .left)) (sym (c .before .has .ensures ∙ ap (λ q. member q a.faulty) (c .before .before .before .before .before .before .byte-at3 .ensures)) ∙ not-t _ (c .if3 .taken))
 
-has-requires-2 : tie.Need-has-requires-2
-has-requires-2 c κs = search needs
-
 returns-4 : tie.Need-returns-4
 unfolding lineKey
 returns-4 c =
@@ -61,9 +41,6 @@ returns-4 c =
     let line = a.line .now in
     let k : c .before .before .before .before .before .key-of .result ≡ lineKey line = c .before .before .before .before .before .key-of .ensures in
     line-faulty a.plan a.faulty a.least line (c .before .before .before .before .before .before .if1 .left) (omega (arith, k, c .before .before .before .before .if2 .left)) (sym (c .before .before .before .has .ensures ∙ ap (λ q. member q a.faulty) (c .before .before .before .before .before .before .before .before .byte-at3 .ensures)) ∙ not-f _ (c .before .before .if3 .left)) (sym (c .before .has2 .ensures ∙ ap (λ q. member q a.faulty) (c .before .before .before .before .before .before .before .byte-at4 .ensures)) ∙ c .if4 .taken)
-
-is-expected-requires : tie.Need-is-expected-requires
-is-expected-requires c κs = search needs
 
 returns-5 : tie.Need-returns-5
 unfolding lineKey
@@ -80,16 +57,16 @@ pub is-good-frame-spec : {M : Type 1} → statement M
 is-good-frame-spec =
     tie.close
     (tie.spec
-    byte-at-requires
-    byte-at-requires-2
-    byte-at-requires-3
-    byte-at-requires-4
+    (λ c κs. search needs)
+    (λ c κs. search needs)
+    (λ c κs. search needs)
+    (λ c κs. search needs)
     returns
-    key-of-requires
+    (λ c κs. search needs)
     returns-2
-    has-requires
+    (λ c κs. search needs)
     returns-3
-    has-requires-2
+    (λ c κs. search needs)
     returns-4
-    is-expected-requires
+    (λ c κs. search needs)
     returns-5)

@@ -5,7 +5,7 @@ use mathlib.Core.Path.{sym, _∙_}
 use native.Mathlib.Omega.{arith}
 use lib.ListN.{length}
 use Rattle.sets.proofs.Tests.{not-t, not-f}
-use Rattle.plan.specs.Outcome.{refusal, verdict}
+use Rattle.refusals.specs.Outcome.{refusal, verdict}
 use Rattle.text.proofs.LineEnds.{stop-le}
 use Rattle.reader.proofs.FrameLines.{top-none, top-open, top-other, top-good}
 use borrow.Author.Needs.{needs}
@@ -26,20 +26,11 @@ returns-2 c =
     let text = a.text .now in
     sym (top-open text a.end (c .before .if1 .left) (c .before .before .before .pre) (omega (arith, c .if2 .taken)))
 
-sub-is-text : tie.Need-sub-is-text
-sub-is-text c = search needs
-
-part-is-text-start : tie.Need-part-is-text-start
-part-is-text-start c = search needs
-
 part-is-text-end : tie.Need-part-is-text-end
 part-is-text-end c =
     let a = c .before .before .before .args in
     let text = a.text .now in
     omega (arith, c .before .before .before .pre, stop-le text 0 (omega arith))
-
-is-text-requires : tie.Need-is-text-requires
-is-text-requires c κs = search needs
 
 returns-3 : tie.Need-returns-3
 unfolding verdict refusal
@@ -48,20 +39,11 @@ returns-3 c =
     let text = a.text .now in
     sym (top-other text a.end (c .before .before .before .before .if1 .left) (c .before .before .before .before .before .before .pre) (let z : a.end < length text = omega (arith, stop-le text 0 (omega arith), c .before .before .before .before .before .before .pre, c .before .before .before .if2 .left) in z) (sym (c .before .is-text .ensures) ∙ not-t _ (c .if3 .taken)))
 
-sub-judge-head : tie.Need-sub-judge-head
-sub-judge-head c = search needs
-
-part-judge-head-start : tie.Need-part-judge-head-start
-part-judge-head-start c = search needs
-
 part-judge-head-end : tie.Need-part-judge-head-end
 part-judge-head-end c =
     let a = c .before .before .before .before .before .before .args in
     let text = a.text .now in
     omega (arith, c .before .before .before .before .before .before .pre, stop-le text 0 (omega arith))
-
-judge-head-requires : tie.Need-judge-head-requires
-judge-head-requires c κs = search needs
 
 returns-4 : tie.Need-returns-4
 returns-4 c =
@@ -75,13 +57,13 @@ judge-first-spec =
     (tie.spec
     returns
     returns-2
-    sub-is-text
-    part-is-text-start
+    (λ c. search needs)
+    (λ c. search needs)
     part-is-text-end
-    is-text-requires
+    (λ c κs. search needs)
     returns-3
-    sub-judge-head
-    part-judge-head-start
+    (λ c. search needs)
+    (λ c. search needs)
     part-judge-head-end
-    judge-head-requires
+    (λ c κs. search needs)
     returns-4)

@@ -6,10 +6,11 @@ use native.Mathlib.Omega.{arith}
 use lib.ListN.{length, getD, take, drop}
 use borrow.Author.Needs.{needs}
 use Rattle.sets.proofs.Tests.{not-t, not-f}
-use Rattle.plan.specs.Outcome.{refusal, verdict}
+use Rattle.refusals.specs.Outcome.{refusal, verdict}
 use Rattle.protocol.specs.Sheet.{lines, wrongAt}
 use Rattle.text.proofs.LineEnds.{stop-ge, stop-le}
-use Rattle.reader.specs.Reading.{judgedSays, lineKey, judgeLines}
+use Rattle.reader.specs.Reading.{judgedSays, judgeLines}
+use Rattle.finding.specs.Frames.{lineKey}
 use Rattle.reader.proofs.FrameLines.{at-end, at-open, at-other, at-wrong, at-good, key-below}
 use Rattle.reader.proofs.judgement.judge_frames.Statement.{statement}
 use Rattle.reader.proofs.judgement.judge_frames.Tie as tie
@@ -23,9 +24,6 @@ abbrev μ-loop : tie.MeasureT-loop
 
 loop-holds : tie.Need-loop-holds Inv-loop μ-loop
 loop-holds c = (refl, omega arith, c .before .pre .1)
-
-line-end-requires : tie.Need-line-end-requires Inv-loop μ-loop
-line-end-requires c κs = search needs
 
 returns : tie.Need-returns Inv-loop μ-loop
 unfolding judgedSays verdict refusal wrongAt
@@ -56,9 +54,6 @@ part-is-text-end c =
     let text = a.text .now in
     let l = c .before .before .before .loop in
     omega (arith, c .before .line-end .ensures, stop-le text l.at (omega arith))
-
-is-text-requires : tie.Need-is-text-requires Inv-loop μ-loop
-is-text-requires c κs = search needs
 
 returns-2 : tie.Need-returns-2 Inv-loop μ-loop
 unfolding judgedSays verdict refusal wrongAt
@@ -123,9 +118,6 @@ part-key-of-end c =
     let l = c .before .before .before .before .before .before .before .before .before .loop in
     omega (arith, c .before .before .before .before .before .before .before .line-end .ensures, stop-le text l.at (omega arith))
 
-key-of-requires : tie.Need-key-of-requires Inv-loop μ-loop
-key-of-requires c κs = search needs
-
 add-least : tie.Need-add-least Inv-loop μ-loop
 unfolding lineKey
 add-least c =
@@ -186,12 +178,12 @@ judge-frames-spec =
     Inv-loop
     μ-loop
     loop-holds
-    line-end-requires
+    (λ c κs. search needs)
     returns
     sub-is-text
     part-is-text-start
     part-is-text-end
-    is-text-requires
+    (λ c κs. search needs)
     returns-2
     sub-is-good-frame
     part-is-good-frame-start
@@ -201,7 +193,7 @@ judge-frames-spec =
     sub-key-of
     part-key-of-start
     part-key-of-end
-    key-of-requires
+    (λ c κs. search needs)
     add-least
     add-at
     add-line

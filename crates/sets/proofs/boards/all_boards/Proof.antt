@@ -15,9 +15,6 @@ returns : tie.Need-returns
 unfolding boards
 returns c = let a = c .before .args in ap boards (let z : 8 ≡ min a.n 8 = omega arith in z)
 
-shl-result : tie.Need-shl-result
-shl-result c = search needs
-
 sub-result : tie.Need-sub-result
 sub-result c = let n = c .before .args .n in omega (arith, shifted n (c .if1 .left), pow-pos n)
 
@@ -28,4 +25,4 @@ returns-2 c =
     ap (λ x. x - 1) (shifted n (c .if1 .left)) ∙ ap boards (let z : n ≡ min n 8 = omega arith in z)
 
 pub all-boards-spec : {M : Type 1} → statement M
-all-boards-spec = tie.close (tie.spec returns shl-result sub-result returns-2)
+all-boards-spec = tie.close (tie.spec returns (λ c. search needs) sub-result returns-2)

@@ -9,12 +9,9 @@ use Rattle.sets.proofs.boards.has.Tie as tie
 returns : tie.Need-returns
 returns c = let a = c .before .args in sym (member-high 8 a.i a.s (omega arith) (c .if1 .taken))
 
-shr-result : tie.Need-shr-result
-shr-result c = search needs
-
 returns-2 : tie.Need-returns-2
 unfolding member
 returns-2 c = refl
 
 pub has-spec : {M : Type 1} → statement M
-has-spec = tie.close (tie.spec returns shr-result returns-2)
+has-spec = tie.close (tie.spec returns (λ c. search needs) returns-2)

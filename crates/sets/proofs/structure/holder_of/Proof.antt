@@ -23,12 +23,6 @@ returns c = let a = c .before .before .args in sym (holder-empty (a.sets .now)) 
 loop-holds : tie.Need-loop-holds Inv-loop μ-loop
 loop-holds c = let a = c .before .before .args in (omega arith, seek-start (holds (a.sets .now) a.a) (length (a.sets .now)))
 
-shared-slice-read-subset : tie.Need-shared-slice-read-subset Inv-loop μ-loop
-shared-slice-read-subset c = omega arith
-
-subset-requires : tie.Need-subset-requires Inv-loop μ-loop
-subset-requires c κs = search needs
-
 returns-2 : tie.Need-returns-2 Inv-loop μ-loop
 unfolding place
 returns-2 c =
@@ -36,12 +30,6 @@ returns-2 c =
     let l = c .before .before .before .before .loop in
     let hit = seek-hit (holds (a.sets .now) a.a) (length (a.sets .now)) l.i _ (l .inv .1) (omega arith) (sym (c .before .subset .ensures) ∙ c .if2 .taken) in
     sym (holder-at (a.sets .now) a.a l.i (c .before .before .before .before .before .if1 .left) hit (omega arith))
-
-add-i : tie.Need-add-i Inv-loop μ-loop
-add-i c = omega arith
-
-loop-less : tie.Need-loop-less Inv-loop μ-loop
-loop-less c = omega arith
 
 loop-again : tie.Need-loop-again Inv-loop μ-loop
 loop-again c =
@@ -65,10 +53,10 @@ holder-of-spec =
     μ-loop
     returns
     loop-holds
-    shared-slice-read-subset
-    subset-requires
+    (λ c. omega arith)
+    (λ c κs. search needs)
     returns-2
-    add-i
-    loop-less
+    (λ c. omega arith)
+    (λ c. omega arith)
     loop-again
     returns-3)

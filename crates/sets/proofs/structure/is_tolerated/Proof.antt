@@ -4,15 +4,6 @@ use borrow.Author.Needs.{needs}
 use Rattle.sets.proofs.structure.is_tolerated.Statement.{statement}
 use Rattle.sets.proofs.structure.is_tolerated.Tie as tie
 
-holder-of-requires : tie.Need-holder-of-requires
-holder-of-requires c κs = search needs
-
-enum-told : tie.Need-enum-told
-enum-told c = search needs
-
-enum-told-2 : tie.Need-enum-told-2
-enum-told-2 c = search needs
-
 returns : tie.Need-returns
 unfolding place isSome tolerated
 returns c = ap (λ r. isSome (place r)) (sym (c .enum-told .given .1)) ∙ ap isSome (c .before .before .holder-of .ensures)
@@ -22,4 +13,4 @@ unfolding place isSome tolerated
 returns-2 c = ap (λ r. isSome (place r)) (sym (c .enum-told2 .given .1)) ∙ ap isSome (c .before .before .holder-of .ensures)
 
 pub is-tolerated-spec : {M : Type 1} → statement M
-is-tolerated-spec = tie.close (tie.spec holder-of-requires enum-told enum-told-2 returns returns-2)
+is-tolerated-spec = tie.close (tie.spec (λ c κs. search needs) (λ c. search needs) (λ c. search needs) returns returns-2)

@@ -1,8 +1,8 @@
 -- `play` meets its contract: 20, 17, 11, then the sheet.
 -- Assumes nothing.
 use mathlib.Core.Path.{sym, ap, _∙_}
-use Rattle.plan.specs.Outcome.{refusal, verdict}
-use Rattle.plan.proofs.Outcomes.{refusal-number}
+use Rattle.refusals.specs.Outcome.{refusal, verdict}
+use Rattle.refusals.proofs.Outcomes.{refusal-number}
 use Rattle.protocol.specs.Answers.{playedSays}
 use Rattle.protocol.specs.Sheet.{wrongAt}
 use Rattle.protocol.specs.Playing.{Play, refusedPlay}
@@ -32,51 +32,49 @@ returns-3 c =
     let e = short-cells (a.text .now) (a.cells .now) (a.out .now) (c .before .before .if1 .left) (c .before .if2 .left) (c .if3 .taken) in
     (ap (λ (p : Play). p .answer) e, ap (λ (p : Play). p .cells) e, ap (λ (p : Play). p .out) e)
 
-judge-sheet-requires : tie.Need-judge-sheet-requires
-judge-sheet-requires c κs = search needs
-
-enum-known-verdict : tie.Need-enum-known-verdict
-enum-known-verdict c = search needs
-
-cast-t14 : tie.Need-cast-t14
-cast-t14 c = search needs
-
-enum-told : tie.Need-enum-told
-enum-told c = search needs
-
 play-sheet-requires : tie.Need-play-sheet-requires
 unfolding verdict
 play-sheet-requires c κs =
-    let a = c .before .before .before .before .before .before .before .before .before .before .before .args in
-    let d = c .before .before .before .before .judge-sheet in
-    let e = judged-accepted (d .result) (a.text .now) (d .ensures .0) (ap verdict (sym (c .before .before .enum-told .given .1))) in
-    (e, c .before .before .before .before .before .if3 .left, c .before .before .before .before .before .before .if2 .left)
+    let told = c .before .before in
+    let read = told .before .before .before in
+    let roomy = read .before in
+    let wide = roomy .before in
+    let short = wide .before in
+    let a = short .before .before .before .before .args in
+    let d = read .read-sheet in
+    let e = judged-accepted (d .result .judged) (a.text .now) (d .ensures .0) (ap verdict (sym (told .enum-told .given .1))) in
+    (e, roomy .if3 .left, wide .if2 .left, d .ensures .3, d .ensures .4)
 
 returns-4 : tie.Need-returns-4
 unfolding playedSays verdict wrongAt refusedPlay
 returns-4 c =
-    let a = c .before .before .before .before .before .before .before .before .before .before .args in
-    let d = c .before .before .before .judge-sheet in
-    let why = c .before .verdict .given .0 .0 in
-    let o = judged-refused (d .result) (a.text .now) (d .ensures .0) (refusal why) (ap verdict (sym (c .before .verdict .given .1))) (refusal-number why) in
-    let e = sheet-refused (a.text .now) (a.cells .now) (a.out .now) (c .before .before .before .before .before .before .if1 .left) (c .before .before .before .before .before .if2 .left) (c .before .before .before .before .if3 .left)
-    (wrongAt (d .result .line) (refusal why)) o (refusal-number why) in
+    let told = c .before in
+    let read = told .before .before .before in
+    let roomy = read .before in
+    let wide = roomy .before in
+    let short = wide .before in
+    let a = short .before .before .before .before .args in
+    let d = read .read-sheet in
+    let why = told .verdict .given .0 .0 in
+    let o = judged-refused (d .result .judged) (a.text .now) (d .ensures .0) (refusal why) (ap verdict (sym (told .verdict .given .1))) (refusal-number why) in
+    let e = sheet-refused (a.text .now) (a.cells .now) (a.out .now) (short .if1 .left) (wide .if2 .left) (roomy .if3 .left)
+    (wrongAt (d .result .judged .line) (refusal why)) o (refusal-number why) in
     (ap (λ (p : Play). p .answer) e, ap (λ (p : Play). p .cells) e, ap (λ (p : Play). p .out) e)
-
-same-length : tie.Need-same-length
-same-length c = search needs
-
-same-length-2 : tie.Need-same-length-2
-same-length-2 c = search needs
 
 returns-5 : tie.Need-returns-5
 unfolding playedSays verdict
 returns-5 c =
-    let a = c .before .before .before .before .before .before .before .before .before .before .before .before .before .before .before .before .args in
-    let j = c .before .before .before .before .before .before .before .before .before .judge-sheet in
-    let d = c .before .before .before .before .play-sheet in
-    let ok = judged-accepted (j .result) (a.text .now) (j .ensures .0) (ap verdict (sym (c .before .before .before .before .before .before .before .enum-told .given .1))) in
-    let e = sheet-accepted (a.text .now) (a.cells .now) (a.out .now) (c .before .before .before .before .before .before .before .before .before .before .before .before .if1 .left) (c .before .before .before .before .before .before .before .before .before .before .before .if2 .left) (c .before .before .before .before .before .before .before .before .before .before .if3 .left) ok in
+    let played = c .before .before .before .before in
+    let told = played .before .before .before in
+    let read = told .before .before .before in
+    let roomy = read .before in
+    let wide = roomy .before in
+    let short = wide .before in
+    let a = short .before .before .before .before .args in
+    let j = read .read-sheet in
+    let d = played .play-sheet in
+    let ok = judged-accepted (j .result .judged) (a.text .now) (j .ensures .0) (ap verdict (sym (told .enum-told .given .1))) in
+    let e = sheet-accepted (a.text .now) (a.cells .now) (a.out .now) (short .if1 .left) (wide .if2 .left) (roomy .if3 .left) ok in
     (d .ensures .0 ∙ ap (λ (p : Play). p .answer) e, d .ensures .1 ∙ ap (λ (p : Play). p .cells) e, d .ensures .2 ∙ ap (λ (p : Play). p .out) e)
 
 pub play-spec : {M : Type 1} → statement M
@@ -86,12 +84,12 @@ play-spec =
     returns
     returns-2
     returns-3
-    judge-sheet-requires
-    enum-known-verdict
-    cast-t14
-    enum-told
+    (λ c κs. search needs)
+    (λ c. search needs)
+    (λ c. search needs)
+    (λ c. search needs)
     play-sheet-requires
     returns-4
-    same-length
-    same-length-2
+    (λ c. search needs)
+    (λ c. search needs)
     returns-5)

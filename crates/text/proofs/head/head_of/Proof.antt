@@ -1,7 +1,7 @@
 -- `head_of` meets its contract.
 -- Assumes nothing.
 use borrow.Author.Needs.{needs}
-use Rattle.text.proofs.Bytes.{slots-part, head-made}
+use Rattle.text.proofs.Heads.{slots-part, head-made}
 use Rattle.text.proofs.head.head_of.Statement.{statement}
 use Rattle.text.proofs.head.head_of.Tie as tie
 
@@ -14,7 +14,7 @@ returns c =
     let counted = listed .before in
     let line = counted .before .before .args .line .now in
     let sets = slots-part line (counted .byte-at .result) (listed .sets-of .result) (listed .sets-of .ensures) in
-    head-made line _ _ _ _ _ _ _ (read .byte-at2 .ensures) (settled .settings-of .ensures) (c .byte-at4 .ensures) (counted .byte-at .ensures) (c .before .byte-at3 .ensures) sets
+    head-made line _ _ _ _ _ _ _ (read .byte-at2 .ensures) (settled .settings-of .ensures) (c .number-at .ensures) (counted .byte-at .ensures) (c .before .byte-at3 .ensures) sets
     (made .new .ensures .1)
 
 pub head-of-spec : {M : Type 1} → statement M

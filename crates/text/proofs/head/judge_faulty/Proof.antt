@@ -1,43 +1,76 @@
 -- `judge_faulty` meets its contract: 23.
 -- Assumes nothing.
-use Prim.Native.Nat.{_-_}
-use mathlib.Core.Path.{refl, sym, ap, _∙_}
+use Prim.Native.Nat.{_≤_, _<_, _^_, min}
+use mathlib.Core.Path.{_≡_, refl, sym, ap, _∙_}
+use mathlib.Core.Bool.{true}
+use native.Mathlib.Omega.{arith}
+use lib.ListN.{length}
+use lib.Pow.{pow-mono}
 use borrow.Author.Needs.{needs}
-use Rattle.sets.specs.Sets.{within}
+use Rattle.sets.specs.Sets.{within, boards}
+use Rattle.sets.specs.Structure.{tolerated}
+use Rattle.sets.proofs.Held.{table-length, table-tolerated}
+use Rattle.sets.proofs.Member.{within-boards}
 use Rattle.sets.proofs.Tests.{not-t, not-f}
-use Rattle.plan.specs.Outcome.{taken, refusal, verdict}
-use Rattle.protocol.specs.Rounds.{close}
+use Rattle.refusals.specs.Outcome.{refusal, verdict}
 use Rattle.text.proofs.head.judge_faulty.Statement.{statement}
 use Rattle.text.proofs.head.judge_faulty.Tie as tie
 
-all-boards-requires : tie.Need-all-boards-requires
-all-boards-requires c κs = search needs
-
-subset-requires : tie.Need-subset-requires
-subset-requires c κs = search needs
+-- The set names boards of the plan, or not.
+named : (c : tie.After-subset) → let a = c .before .before .before .before .args in c .subset .result ≡ within a.faulty (boards (min a.n 7))
+named c =
+    let few = c .before .before in
+    let a = few .before .before .args in
+    let z : min (few .at-most-seven .result) 8 ≡ min a.n 7 = omega (arith, few .at-most-seven .ensures) in
+    c .subset .ensures ∙ ap (within a.faulty) (c .before .all-boards .ensures ∙ ap boards z)
 
 returns : tie.Need-returns
 unfolding verdict refusal
-returns c = rw (sym (c .before .subset .ensures ∙ ap (within (c .before .before .before .before .args .faulty)) (c .before .before .all-boards .ensures)) ∙ not-t _ (c .if1 .taken)) refl
+returns c = rw (sym (named (c .before)) ∙ not-t _ (c .if1 .taken)) refl
 
-is-tolerated-requires : tie.Need-is-tolerated-requires
-is-tolerated-requires c κs = search needs
+-- A set of the plan's boards.
+inside : (c : tie.Else1) → let a = c .before .before .before .before .before .args in within a.faulty (boards (min a.n 7)) ≡ true
+inside c = sym (named (c .before)) ∙ not-f _ (c .if1 .left)
+
+small : (c : tie.Else1) → c .before .before .before .before .before .args .faulty < 128
+small c =
+    let known = c .before .before .before .before in
+    let a = known .before .args in
+    let most : 2 ^ min a.n 7 ≤ 2 ^ 7 = pow-mono (let z : min a.n 7 ≤ 7 = omega arith in z) in
+    omega (arith, within-boards (min a.n 7) a.faulty (inside c))
+
+holds-requires : tie.Need-holds-requires
+holds-requires c κs =
+    let made = c .before in
+    record { whole = ap length (made .holders-of .ensures) ∙ table-length _; small = small (made .before) }
+
+-- The table holds the set, or not.
+held : (c : tie.After-holds)
+    → let e = c .before .before .before .before .before .before .before .before in c .holds .result ≡ tolerated (e .args .sets .now) (e .args .faulty)
+held c =
+    let made = c .before .before in
+    let left = made .before in
+    let e = left .before .before .before .before .before in
+    c .holds .ensures ∙ table-tolerated (e .args .sets .now) (made .holders-of .result) (e .args .faulty) (made .holders-of .ensures) (e .pre) (small left)
 
 returns-2 : tie.Need-returns-2
 unfolding verdict refusal
-returns-2 c = rw (sym (c .before .before .before .subset .ensures ∙ ap (within (c .before .before .before .before .before .before .args .faulty)) (c .before .before .before .before .all-boards .ensures)) ∙ not-f _ (c .before .before .if1 .left), sym (c .before .is-tolerated .ensures) ∙ c .if2 .taken) refl
+returns-2 c = rw (inside (c .before .before .before .before), sym (held (c .before)) ∙ c .if2 .taken) refl
 
 returns-3 : tie.Need-returns-3
 unfolding verdict refusal
-returns-3 c = rw (sym (c .before .before .before .subset .ensures ∙ ap (within (c .before .before .before .before .before .before .args .faulty)) (c .before .before .before .before .all-boards .ensures)) ∙ not-f _ (c .before .before .if1 .left), sym (c .before .is-tolerated .ensures) ∙ c .if2 .left) refl
+returns-3 c = rw (inside (c .before .before .before .before), sym (held (c .before)) ∙ c .if2 .left) refl
 
 pub judge-faulty-spec : {M : Type 1} → statement M
 judge-faulty-spec =
     tie.close
     (tie.spec
-    all-boards-requires
-    subset-requires
+    (λ c κs. search needs)
+    (λ c κs. search needs)
+    (λ c κs. search needs)
     returns
-    is-tolerated-requires
+    (λ c κs. search needs)
+    (λ c. search needs)
+    holds-requires
     returns-2
     returns-3)

@@ -3,9 +3,8 @@
 use Prim.Native.Nat.{_+_}
 use mathlib.Core.Path.{sym, ap, ap₂, _∙_}
 use borrow.Author.Needs.{needs}
-use Rattle.plan.specs.Outcome.{refusal, verdict}
-use Rattle.plan.specs.Calls.{andThen}
-use Rattle.text.proofs.Bytes.{head-wrong, head-judged, slots-part}
+use Rattle.refusals.specs.Outcome.{refusal, verdict, andThen}
+use Rattle.text.proofs.Heads.{head-wrong, head-judged, slots-part}
 use Rattle.text.proofs.head.judge_head.Statement.{statement}
 use Rattle.text.proofs.head.judge_head.Tie as tie
 
@@ -30,8 +29,8 @@ returns-2 c =
     let sets = slots-part line (counted .byte-at .result) (listed .sets-of .result) (listed .sets-of .ensures) in
     c .first-of2 .ensures
     ∙ ap₂ andThen (planned .new .ensures .0) (c .before .first-of .ensures ∙ ap₂ andThen (worded .judge-word .ensures) (judged .judge-faulty .ensures))
-    ∙ head-judged line _ _ _ _ _ _ (numbered .byte-at2 .ensures) (settled .settings-of .ensures) (worded .before .byte-at3 .ensures) (counted .byte-at .ensures)
-    (read .byte-at4 .ensures) sets (sized .if1 .left)
+    ∙ head-judged line _ _ _ _ _ _ (numbered .byte-at2 .ensures) (settled .settings-of .ensures) (worded .before .number-at .ensures) (counted .byte-at .ensures)
+    (read .byte-at3 .ensures) sets (sized .if1 .left)
 
 pub judge-head-spec : {M : Type 1} → statement M
 judge-head-spec =

@@ -3,7 +3,7 @@
 use Prim.Native.Nat.{_-_}
 use mathlib.Core.Path.{refl}
 use borrow.Author.Tests.{lt-leb, le-leb}
-use Rattle.plan.specs.Outcome.{taken, refusal, verdict}
+use Rattle.refusals.specs.Outcome.{taken, refusal, verdict}
 use Rattle.protocol.specs.Rounds.{close}
 use Rattle.text.proofs.head.judge_word.Statement.{statement}
 use Rattle.text.proofs.head.judge_word.Tie as tie

@@ -6,7 +6,7 @@ use native.Mathlib.Omega.{arith}
 use lib.ListN.{set}
 use borrow.Author.Needs.{needs}
 use Rattle.protocol.specs.Rounds.{close}
-use Rattle.text.proofs.Bytes.{slots, slots-start, slots-more}
+use Rattle.text.proofs.Heads.{slots, slots-start, slots-more}
 use Rattle.text.proofs.head.sets_of.Statement.{statement}
 use Rattle.text.proofs.head.sets_of.Tie as tie
 
@@ -18,27 +18,6 @@ abbrev μ-loop : tie.MeasureT-loop
 
 loop-holds : tie.Need-loop-holds Inv-loop μ-loop
 loop-holds c = (omega arith, slots-start (c .before .args .line .now))
-
-cast-byte-at : tie.Need-cast-byte-at Inv-loop μ-loop
-cast-byte-at c = search needs
-
-add-byte-at : tie.Need-add-byte-at Inv-loop μ-loop
-add-byte-at c = search needs
-
-byte-at-requires : tie.Need-byte-at-requires Inv-loop μ-loop
-byte-at-requires c κs = search needs
-
-cast-sets : tie.Need-cast-sets Inv-loop μ-loop
-cast-sets c = search needs
-
-array-write-sets : tie.Need-array-write-sets Inv-loop μ-loop
-array-write-sets c = omega arith
-
-add-k : tie.Need-add-k Inv-loop μ-loop
-add-k c = omega arith
-
-loop-less : tie.Need-loop-less Inv-loop μ-loop
-loop-less c = omega arith
 
 loop-again : tie.Need-loop-again Inv-loop μ-loop
 loop-again c =
@@ -59,12 +38,12 @@ sets-of-spec =
     Inv-loop
     μ-loop
     loop-holds
-    cast-byte-at
-    add-byte-at
-    byte-at-requires
-    cast-sets
-    array-write-sets
-    add-k
-    loop-less
+    (λ c. search needs)
+    (λ c. search needs)
+    (λ c κs. search needs)
+    (λ c. search needs)
+    (λ c. omega arith)
+    (λ c. omega arith)
+    (λ c. omega arith)
     loop-again
     returns)

@@ -5,7 +5,7 @@ use Rattle.text.proofs.head.settings_of.Statement.{statement}
 use Rattle.text.proofs.head.settings_of.Tie as tie
 
 returns : tie.Need-returns
-returns c = rw (c .byte-at3 .ensures, c .before .byte-at2 .ensures, c .before .before .byte-at .ensures)
+returns c = rw (c .byte-at2 .ensures, c .before .number-at .ensures, c .before .before .byte-at .ensures)
 
 pub settings-of-spec : {M : Type 1} → statement M
 settings-of-spec = tie.close (tie.spec (λ c κs. search needs) (λ c κs. search needs) (λ c κs. search needs) returns)

@@ -9,14 +9,8 @@ use Rattle.tree.proofs.levels.cell_count.Tie as tie
 returns : tie.Need-returns
 returns c = sym (count-over (c .before .args .n) (c .if1 .taken))
 
-add-level-start : tie.Need-add-level-start
-add-level-start c = search needs
-
-level-start-requires : tie.Need-level-start-requires
-level-start-requires c κs = search needs
-
 returns-2 : tie.Need-returns-2
 returns-2 c = c .level-start .ensures ∙ sym (count-start (c .before .before .args .n))
 
 pub cell-count-spec : {M : Type 1} → statement M
-cell-count-spec = tie.close (tie.spec returns add-level-start level-start-requires returns-2)
+cell-count-spec = tie.close (tie.spec returns (λ c. search needs) (λ c κs. search needs) returns-2)

@@ -32,24 +32,6 @@ returns-2 c = let a = c .before .before .args in sym (size-over a.n a.k (c .if2 
 returns-3 : tie.Need-returns-3
 returns-3 c = let a = c .before .before .before .args in sym (size-deep a.n a.k (c .if3 .taken))
 
-sub-row : tie.Need-sub-row
-sub-row c = search needs
-
-cast-row : tie.Need-cast-row
-cast-row c = search needs
-
-mul-result : tie.Need-mul-result
-mul-result c = search needs
-
-mul-result-2 : tie.Need-mul-result-2
-mul-result-2 c = search needs
-
-index-1-result : tie.Need-index-1-result
-index-1-result c = search needs
-
-index-2-result : tie.Need-index-2-result
-index-2-result c = search needs
-
 returns-4 : tie.Need-returns-4
 unfolding sizes levelSize
 returns-4 c =
@@ -66,10 +48,10 @@ level-size-spec =
     returns
     returns-2
     returns-3
-    sub-row
-    cast-row
-    mul-result
-    mul-result-2
-    index-1-result
-    index-2-result
+    (λ c. search needs)
+    (λ c. search needs)
+    (λ c. search needs)
+    (λ c. search needs)
+    (λ c. search needs)
+    (λ c. search needs)
     returns-4)

@@ -18,20 +18,11 @@ abbrev μ-loop : tie.MeasureT-loop
 loop-holds : tie.Need-loop-holds Inv-loop μ-loop
 loop-holds c = (omega arith, sym (start-zero (c .args .n)))
 
-level-size-requires : tie.Need-level-size-requires Inv-loop μ-loop
-level-size-requires c κs = search needs
-
 add-start : tie.Need-add-start Inv-loop μ-loop
 add-start c =
     let a = c .before .before .before .args in
     let l = c .before .before .loop in
     record { fits = omega (arith, c .level-size .ensures, start-next a.n l.i, start-most a.n (l.i + 1)) }
-
-add-i : tie.Need-add-i Inv-loop μ-loop
-add-i c = omega arith
-
-loop-less : tie.Need-loop-less Inv-loop μ-loop
-loop-less c = omega arith
 
 loop-again : tie.Need-loop-again Inv-loop μ-loop
 loop-again c =
@@ -52,9 +43,9 @@ level-start-spec =
     Inv-loop
     μ-loop
     loop-holds
-    level-size-requires
+    (λ c κs. search needs)
     add-start
-    add-i
-    loop-less
+    (λ c. omega arith)
+    (λ c. omega arith)
     loop-again
     returns)

@@ -17,18 +17,6 @@ product c =
     let w : a.n - a.level ≤ 255 = omega arith in
     mul-le-mul i w
 
-outside-below-requires : tie.Need-outside-below-requires
-outside-below-requires c κs = search needs
-
-cast-below : tie.Need-cast-below
-cast-below c = search needs
-
-sub-result : tie.Need-sub-result
-sub-result c = search needs
-
-cast-result : tie.Need-cast-result
-cast-result c = search needs
-
 mul-result : tie.Need-mul-result
 mul-result c = record { fits = omega (arith, product c) }
 
@@ -50,10 +38,10 @@ pub child-index-spec : {M : Type 1} → statement M
 child-index-spec =
     tie.close
     (tie.spec
-    outside-below-requires
-    cast-below
-    sub-result
-    cast-result
+    (λ c κs. search needs)
+    (λ c. search needs)
+    (λ c. search needs)
+    (λ c. search needs)
     mul-result
     add-result
     returns

@@ -20,19 +20,10 @@ abbrev μ-loop : tie.MeasureT-loop
 loop-holds : tie.Need-loop-holds Inv-loop μ-loop
 loop-holds c = (omega arith, sym (outside-zero (c .args .s)))
 
-has-requires : tie.Need-has-requires Inv-loop μ-loop
-has-requires c κs = search needs
-
 add-seen : tie.Need-add-seen Inv-loop μ-loop
 add-seen c =
     let l = c .before .before .before .loop in
     record { fits = omega (arith, outside-le (c .before .before .before .before .args .s) l.i) }
-
-add-i : tie.Need-add-i Inv-loop μ-loop
-add-i c = omega arith
-
-loop-less : tie.Need-loop-less Inv-loop μ-loop
-loop-less c = omega arith
 
 loop-again : tie.Need-loop-again Inv-loop μ-loop
 loop-again c =
@@ -52,4 +43,4 @@ returns c =
 pub outside-below-spec : {M : Type 1} → statement M
 outside-below-spec =
     tie.close
-    (tie.spec Inv-loop μ-loop loop-holds has-requires add-seen add-i loop-less loop-again returns)
+    (tie.spec Inv-loop μ-loop loop-holds (λ c κs. search needs) add-seen (λ c. omega arith) (λ c. omega arith) loop-again returns)

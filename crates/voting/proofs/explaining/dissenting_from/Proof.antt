@@ -27,21 +27,6 @@ abbrev μ-loop : tie.MeasureT-loop
 loop-holds : tie.Need-loop-holds Inv-loop μ-loop
 loop-holds c = let a = c .args in (omega arith, sym (setOf-zero (other a.boards a.values a.v a.detected)))
 
-dissents-requires : tie.Need-dissents-requires Inv-loop μ-loop
-dissents-requires c κs = omega arith
-
-has-requires : tie.Need-has-requires Inv-loop μ-loop
-has-requires c κs = search needs
-
-shl-s : tie.Need-shl-s Inv-loop μ-loop
-shl-s c = omega arith
-
-add-c : tie.Need-add-c Inv-loop μ-loop
-add-c c = omega arith
-
-loop-less : tie.Need-loop-less Inv-loop μ-loop
-loop-less c = omega arith
-
 loop-again : tie.Need-loop-again Inv-loop μ-loop
 loop-again c =
     let a = c .before .before .before .before .args in
@@ -73,10 +58,10 @@ dissenting-from-spec =
     Inv-loop
     μ-loop
     loop-holds
-    dissents-requires
-    has-requires
-    shl-s
-    add-c
-    loop-less
+    (λ c κs. omega arith)
+    (λ c κs. search needs)
+    (λ c. omega arith)
+    (λ c. omega arith)
+    (λ c. omega arith)
     loop-again
     returns)

@@ -5,17 +5,11 @@ use borrow.Author.Needs.{needs}
 use Rattle.voting.proofs.explaining.dissents.Statement.{statement}
 use Rattle.voting.proofs.explaining.dissents.Tie as tie
 
-has-requires : tie.Need-has-requires
-has-requires c κs = search needs
-
 returns : tie.Need-returns
 returns c = rw (sym (c .before .has .ensures) ∙ c .if1 .taken)
-
-array-read-result : tie.Need-array-read-result
-array-read-result c = search needs
 
 returns-2 : tie.Need-returns-2
 returns-2 c = rw (sym (c .before .has .ensures) ∙ c .if1 .left)
 
 pub dissents-spec : {M : Type 1} → statement M
-dissents-spec = tie.close (tie.spec has-requires returns array-read-result returns-2)
+dissents-spec = tie.close (tie.spec (λ c κs. search needs) returns (λ c. search needs) returns-2)

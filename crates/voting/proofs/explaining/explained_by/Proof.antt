@@ -3,9 +3,8 @@
 use Prim.Native.Nat.{_-_, _≤_}
 use mathlib.Core.Path.{_≡_, sym, _∙_}
 use native.Mathlib.Omega.{arith}
-use borrow.Author.Needs.{needs}
 use borrow.Author.Tests.{lt-ltb, le-ltb}
-use Rattle.sets.specs.Search.{first, any}
+use Rattle.sets.specs.Search.{first}
 use Rattle.sets.proofs.Search.{seek-start, seek-hit, seek-miss, seek-none, any-at}
 use Rattle.voting.specs.Tables.{explains, explainedBy}
 use Rattle.voting.proofs.explaining.explained_by.Statement.{statement}

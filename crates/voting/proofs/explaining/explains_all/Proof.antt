@@ -5,7 +5,7 @@ use native.Mathlib.Omega.{arith}
 use borrow.Author.Needs.{needs}
 use borrow.Author.Tests.{lt-ltb, le-ltb}
 use Rattle.sets.specs.Structure.{tolerated}
-use Rattle.plan.specs.Schedule.{listed}
+use Rattle.plan.specs.Listed.{listed}
 use Rattle.voting.specs.Tables.{at, explains}
 use Rattle.voting.proofs.Collect.{dissenting-below}
 use Rattle.voting.proofs.explaining.explains_all.Statement.{statement}

@@ -6,7 +6,7 @@ use native.Mathlib.Omega.{arith}
 use borrow.Author.Needs.{needs}
 use borrow.Author.Tests.{lt-ltb, le-ltb}
 use Rattle.sets.specs.Structure.{tolerated}
-use Rattle.plan.specs.Schedule.{listed}
+use Rattle.plan.specs.Listed.{listed}
 use Rattle.voting.specs.Tables.{at, elected}
 use Rattle.voting.proofs.Collect.{agreeing-below}
 use Rattle.voting.proofs.voting.elects.Statement.{statement}

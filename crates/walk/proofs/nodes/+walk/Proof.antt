@@ -1,18 +1,20 @@
 -- `walk` meets its contract: the children that are left give the rest of the list. The levels left fall.
 -- Assumes nothing.
-use Prim.Native.Nat.{ℕ, _+_, _-_, _*_, _^_, _<_}
+use lib.Bits.{bitOr}
+use Prim.Native.Nat.{ℕ, _+_, _-_, _*_, _^_, _%_, _<_, _≤_}
 use native.Mathlib.Nat.{mul-le-mul-left}
 use lib.ListN.{length, set, length-set}
 use lib.Seq.{sets}
 use mathlib.Core.Path.{_≡_, sym, ap, _∙_}
 use mathlib.Core.Logic.{⊎-elim}
-use mathlib.Core.List.{[], _∷_}
+use mathlib.Core.Bool.{Bool, true, false}
+use mathlib.Core.List.{List, [], _∷_}
 use native.Mathlib.Omega.{arith}
 use borrow.Author.Needs.{needs}
 use borrow.Fn.Kinds.{In}
 use borrow.Fn.PlainCycle.{Measures, is, falls, and}
 use Rattle.sets.proofs.Tests.{not-t, not-f}
-use Rattle.sets.specs.Sets.{insert}
+use Rattle.sets.specs.Sets.{member, insert}
 use Rattle.tree.proofs.Descent.{insert-byte}
 use Rattle.walk.specs.Listing.{Written}
 use Rattle.walk.specs.Walk.{pack, isOpen, walked}
@@ -22,7 +24,7 @@ use Rattle.walk.proofs.node.node_of.Reads as node-of-reads
 use Rattle.walk.proofs.nodes.+walk.Lts-walk as walk-lts
 use Rattle.walk.proofs.nodes.+walk.Tie.{close}
 use Rattle.walk.proofs.nodes.+walk.{statement}
-use Rattle.walk.proofs.nodes.is_open.Reads as is-open-reads
+use Rattle.walk.proofs.internal.is_open.Reads as is-open-reads
 use Rattle.walk.proofs.nodes.walk.Kinds as walk-kinds
 use Rattle.walk.proofs.nodes.walk.Reads as walk
 
@@ -136,52 +138,100 @@ loop-holds t c =
     walking-start (walked test a.n a.spare (a.left - 1)) a.boards a.n (a.index * (a.spare + a.left)) a.used _ (a.nodes .now)
     (walked-inner test a.n a.spare a.left a.index a.last a.boards (c .if2 .left) (sym (c .before .before .is-open .ensures) ∙ not-f _ (c .before .if1 .left)))
 
-has-requires : (t : ℕ) → walk-lts.Need-has-requires (callees t) (walk-at t) walk.Post Inv-loop μ-loop
-has-requires t c κs = search needs
+-- The children so far, at a child.
+module _ {t : ℕ} (x : walk-lts.In-loop (callees t) (walk-at t) walk.Post Inv-loop μ-loop) where
+  abbrev entry : walk-lts.Start (callees t) (walk-at t) walk.Post Inv-loop μ-loop
+  entry = from-loop x
 
-shl-walk : (t : ℕ) → walk-lts.Need-shl-walk (callees t) (walk-at t) walk.Post Inv-loop μ-loop
-shl-walk t c = omega (arith, from-loop (c .before .before) .pre .1 .most-boards)
+  abbrev test : ℕ → Bool
+  test = isOpen (entry .args .holders .now) (entry .args .without)
 
-sub-walk : (t : ℕ) → walk-lts.Need-sub-walk (callees t) (walk-at t) walk.Post Inv-loop μ-loop
-sub-walk t c = omega arith
+  -- What stands below a child.
+  abbrev part : ℕ → List ℕ
+  part s = walked test (entry .args .n) (entry .args .spare) (entry .args .left - 1) (x .before .loop .next) (x .before .loop .c) s
+
+  -- The child's boards.
+  abbrev grown : ℕ
+  grown = bitOr (entry .args .boards) (1 * 2 ^ x .before .loop .c % 256)
+
+  joined : grown ≡ insert (x .before .loop .c) (entry .args .boards)
+  joined = insert-byte (entry .args .boards) (x .before .loop .c) (omega (arith, entry .pre .1 .most-boards))
+
+  small : grown < 128
+  small = child-small (entry .args .boards) (x .before .loop .c) (entry .pre .1 .small) (omega (arith, entry .pre .1 .most-boards))
+
+  number : x .before .loop .next < 8 ^ (7 - (entry .args .left - 1))
+  number =
+      let a = entry .args in
+      let p = entry .pre .1 in
+      let l = x .before .loop in
+      child-number a.left a.index (a.spare + a.left) l.c l.next (x .before .before .if2 .left) (omega (arith, p .width)) (p .width) (omega (arith, p .most-boards)) (p .number) (l .inv .number)
+
+  room : member (x .before .loop .c) (entry .args .boards) ≡ false → x .before .loop .at + length (part grown) ≤ length (x .before .loop .nodes)
+  room out =
+      let a = entry .args in
+      let l = x .before .loop in
+      rw joined
+      (walking-room (walked test a.n a.spare (a.left - 1)) a.boards a.n (a.index * (a.spare + a.left)) a.used _ (a.nodes .now) l.c l.next l.at l.nodes (l .inv) (x .loop-test .taken) out (entry .pre .1 .room))
+
+  shut : test grown ≡ false → part grown ≡ []
+  shut e = let a = entry .args in walked-shut test a.n a.spare (a.left - 1) (x .before .loop .next) (x .before .loop .c) grown e
+
+  leaf : entry .args .left ≡ 1 → test grown ≡ true → part grown ≡ pack (x .before .loop .next) (x .before .loop .c) grown ∷ []
+  leaf e o = let a = entry .args in walked-last test a.n a.spare (a.left - 1) (x .before .loop .next) (x .before .loop .c) grown (omega arith) o
+
+shl-below : (t : ℕ) → walk-lts.Need-shl-below (callees t) (walk-at t) walk.Post Inv-loop μ-loop
+shl-below t c = omega (arith, from-loop (c .before .before) .pre .1 .most-boards)
+
+is-open-requires-2 : (t : ℕ) → walk-lts.Need-is-open-requires-2 (callees t) (walk-at t) walk.Post Inv-loop μ-loop
+is-open-requires-2 t c κs =
+    let x = c .before .before in
+    record { whole = from-loop x .pre .1 .whole; small = small x }
+
+node-of-requires-2 : (t : ℕ) → walk-lts.Need-node-of-requires-2 (callees t) (walk-at t) walk.Post Inv-loop μ-loop
+node-of-requires-2 t c κs =
+    let x = c .before .before .before .before .before in
+    omega (arith, number x, ap (λ k. 8 ^ (7 - (k - 1))) (c .if5 .taken))
+
+slice-write-nodes-2 : (t : ℕ) → walk-lts.Need-slice-write-nodes-2 (callees t) (walk-at t) walk.Post Inv-loop μ-loop
+slice-write-nodes-2 t c =
+    let grows = c .before .before in
+    let out = grows .before .before in
+    let x = out .before .before in
+    let free = sym (out .before .has .ensures) ∙ not-t _ (out .if3 .taken) in
+    omega (arith, room x free, ap length (leaf x (c .before .if5 .taken) (sym (grows .before .is-open2 .ensures) ∙ grows .if4 .taken)))
+
+mul-nodes-2 : (t : ℕ) → walk-lts.Need-mul-nodes-2 (callees t) (walk-at t) walk.Post Inv-loop μ-loop
+mul-nodes-2 t c = let h = slice-write-nodes-2 t c in search needs
+
+add-at : (t : ℕ) → walk-lts.Need-add-at (callees t) (walk-at t) walk.Post Inv-loop μ-loop
+add-at t c = let h = slice-write-nodes-2 t c in search needs
 
 walk-requires : (t : ℕ) → walk-lts.Need-walk-requires (callees t) (walk-at t) walk.Post Inv-loop μ-loop
 walk-requires t c κs =
-    let x = c .before .before .before in
-    let s = from-loop x in
-    let a = s .args in
-    let p = s .pre .1 in
-    let l = x .before .loop in
-    let inside = x .loop-test .taken in
-    let out = sym (c .before .before .has .ensures) ∙ not-t _ (c .before .if3 .taken) in
-    let f = walked (isOpen (a.holders .now) a.without) a.n a.spare (a.left - 1) in
-    let room = walking-room f a.boards a.n (a.index * (a.spare + a.left)) a.used _ (a.nodes .now) l.c l.next l.at l.nodes (l .inv) inside out (p .room) in (
+    let grows = c .before .before in
+    let out = grows .before .before in
+    let x = out .before .before in
+    let p = from-loop x .pre .1 in (
       omega arith,
       record {
         most-boards = p .most-boards;
         width = omega (arith, p .width);
-        number = child-number a.left a.index (a.spare + a.left) l.c l.next (x .before .before .if2 .left) (omega (arith, p .width)) (p .width) (omega (arith, p .most-boards)) (p .number) (l .inv .number);
-        small = child-small a.boards l.c (p .small) (omega (arith, p .most-boards));
+        number = number x;
+        small = small x;
         whole = p .whole;
-        room = rw (insert-byte a.boards l.c (omega (arith, p .most-boards))) room;
+        room = room x (sym (out .before .has .ensures) ∙ not-t _ (out .if3 .taken));
       },
     )
 
 add-next-2 : (t : ℕ) → walk-lts.Need-add-next-2 (callees t) (walk-at t) walk.Post Inv-loop μ-loop
 add-next-2 t c =
-    let w = c .before .before .before in
-    let x = w .before .before .before in
+    let x = c .before .before .before .before in
     let s = from-loop x in
     let p = s .pre .1 in
     let l = x .before .loop in
     let e = number-fits (s .args .left) (s .args .index) (x .before .before .if2 .left) (omega (arith, p .width)) (p .number) in
     record { fits = omega (arith, l .inv .number, l .inv .inside, p .most-boards, mul-le-mul-left (s .args .index) (p .width)) }
-
-add-c : (t : ℕ) → walk-lts.Need-add-c (callees t) (walk-at t) walk.Post Inv-loop μ-loop
-add-c t c = omega arith
-
-loop-less : (t : ℕ) → walk-lts.Need-loop-less (callees t) (walk-at t) walk.Post Inv-loop μ-loop
-loop-less t c = omega arith
 
 loop-again : (t : ℕ) → walk-lts.Need-loop-again (callees t) (walk-at t) walk.Post Inv-loop μ-loop
 loop-again t c =
@@ -193,13 +243,24 @@ loop-again t c =
     let f = walked (isOpen (a.holders .now) a.without) a.n a.spare (a.left - 1) in
     let base = a.index * (a.spare + a.left) in
     ⊎-elim
-    (λ w. let e = insert-byte a.boards l.c (omega (arith, s .pre .1 .most-boards)) in
+    (λ w. let child : Written l.at (w .2 .at) (part x (grown x)) l.nodes (w .2 .nodes) =
+    ⊎-elim
+    (λ u. let e = leaf x (u .1 .taken) (sym (w .1 .ensures) ∙ u .0 .taken) in
+    record {
+      counted = u .4 ∙ omega (arith, ap length e);
+      content = u .3 ∙ ap (set l.nodes l.at) (u .2 .ensures) ∙ ap (sets l.nodes l.at) (sym e);
+    })
+    (⊎-elim
+    (λ u. record { counted = u .7 ∙ u .3 .ensures .counted; content = u .6 ∙ u .3 .ensures .content })
+    (λ u. let e = shut x (sym (w .1 .ensures) ∙ u .0 .left) in
+    record { counted = u .2 ∙ omega (arith, ap length e); content = u .1 ∙ ap (sets l.nodes l.at) (sym e) }))
+    (w .2 .came) in
     let k : Written l.at (c .if3 .at) (f l.next l.c (insert l.c a.boards)) l.nodes (c .if3 .nodes) = record {
-      counted = w .7 ∙ w .2 .ensures .counted ∙ ap (λ b. l.at + length (f l.next l.c b)) e;
-      content = w .5 ∙ w .2 .ensures .content ∙ ap (λ b. sets l.nodes l.at (f l.next l.c b)) e;
+      counted = w .5 ∙ child .counted ∙ ap (λ b. l.at + length (f l.next l.c b)) (joined x);
+      content = w .3 ∙ child .content ∙ ap (λ b. sets l.nodes l.at (f l.next l.c b)) (joined x);
     } in
     walking-here f a.boards a.n base a.used _ (a.nodes .now) l.c l.next l.at (c .if3 .next) (c .if3 .at) l.nodes (c .if3 .nodes) (l .inv) inside
-    (sym (c .before .has .ensures) ∙ not-t _ (w .0 .taken)) (w .6) k)
+    (sym (c .before .has .ensures) ∙ not-t _ (w .0 .taken)) (w .4) k)
     (λ w. walking-skip f a.boards a.n base a.used _ (a.nodes .now) l.c l.next l.at (c .if3 .next) (c .if3 .at) l.nodes (c .if3 .nodes) (l .inv) inside
     (sym (c .before .has .ensures) ∙ not-f _ (w .0 .left)) (w .2) (w .3) (w .1))
     (c .if3 .came)
@@ -232,13 +293,18 @@ pub +walk-spec : {M : Type 1} → statement M
     (cast-next t)
     (mul-next t)
     (loop-holds t)
-    (has-requires t)
-    (shl-walk t)
-    (sub-walk t)
+    (λ c κs. search needs)
+    (shl-below t)
+    (is-open-requires-2 t)
+    (node-of-requires-2 t)
+    (mul-nodes-2 t)
+    (slice-write-nodes-2 t)
+    (add-at t)
+    (λ c. omega arith)
     (walk-requires t)
     (add-next-2 t)
-    (add-c t)
-    (loop-less t)
+    (λ c. omega arith)
+    (λ c. omega arith)
     (loop-again t)
     (same-length-2 t)
     (returns-3 t)

@@ -4,7 +4,7 @@ use native.Mathlib.Omega.{arith}
 use lib.ListN.{length, take}
 use borrow.Author.Needs.{needs}
 use Rattle.sets.specs.Holders.{holderTable}
-use Rattle.plan.proofs.Levels.{slots-listed}
+use Rattle.plan.proofs.Slots.{slots-listed}
 use Rattle.plan.proofs.plan.Plan.holders.Statement.{statement}
 use Rattle.plan.proofs.plan.Plan.holders.Tie as tie
 

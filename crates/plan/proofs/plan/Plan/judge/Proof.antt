@@ -4,7 +4,7 @@ use mathlib.Core.Path.{_≡_, sym, _∙_}
 use native.Mathlib.Omega.{arith}
 use lib.ListN.{length}
 use borrow.Author.Needs.{needs}
-use Rattle.plan.specs.Outcome.{refusal, verdict}
+use Rattle.refusals.specs.Outcome.{refusal, verdict}
 use Rattle.plan.proofs.Own.{judged-none, judged-over, judged-sets, judged-slots}
 use Rattle.plan.proofs.plan.Plan.judge.Statement.{statement}
 use Rattle.plan.proofs.plan.Plan.judge.Tie as tie

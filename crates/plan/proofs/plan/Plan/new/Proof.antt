@@ -1,16 +1,11 @@
 use mathlib.Core.Path.{sym, ap, _∙_}
 use lib.ListN.{length}
-use Rattle.plan.specs.Outcome.{verdict}
-use Rattle.plan.proofs.Outcomes.{accepted, refusal-number, planned-taken, planned-refused}
+use Rattle.refusals.specs.Outcome.{verdict}
+use Rattle.plan.proofs.Accepted.{accepted, planned-taken, planned-refused}
+use Rattle.refusals.proofs.Outcomes.{refusal-number}
 use borrow.Author.Needs.{needs}
 use Rattle.plan.proofs.plan.Plan.new.Statement.{statement}
 use Rattle.plan.proofs.plan.Plan.new.Tie as tie
-
-judge-requires : tie.Need-judge-requires
-judge-requires c κs = search needs
-
-enum-told : tie.Need-enum-told
-enum-told c = search needs
 
 on-requires : tie.Need-on-requires
 unfolding verdict
@@ -18,12 +13,6 @@ on-requires c κs =
     let a = c .before .before .before .before .args in
     let ok = ap verdict (sym (c .enum-told .given .1)) ∙ c .before .before .judge .ensures in
     accepted a.n (length (a.sets .now)) (a.sets .now) a.settings (ap (λ o. o .number) (sym ok)) .admission .most-sets
-
-enum-known-answer : tie.Need-enum-known-answer
-enum-known-answer c = search needs
-
-void-requires : tie.Need-void-requires
-void-requires c κs = search needs
 
 returns : tie.Need-returns
 unfolding verdict
@@ -43,10 +32,10 @@ pub new-spec : {M : Type 1} → statement M
 new-spec =
     tie.close
     (tie.spec
-    judge-requires
-    enum-told
+    (λ c κs. search needs)
+    (λ c. search needs)
     on-requires
-    enum-known-answer
-    void-requires
+    (λ c. search needs)
+    (λ c κs. search needs)
     returns
     returns-2)

@@ -1,0 +1,5 @@
+pub mod Cover
+pub mod Pairs
+pub mod ThreeCover
+pub mod Admitted
+pub mod Together

@@ -1,0 +1,38 @@
+-- `judge_cover` meets its contract.
+-- Assumes nothing.
+use Prim.Native.Nat.{min}
+use mathlib.Core.Path.{_≡_, sym, ap, ap₂, _∙_}
+use mathlib.Core.Bool.{false}
+use native.Mathlib.Omega.{arith}
+use lib.ListN.{length}
+use Rattle.sets.specs.Sets.{within, boards}
+use Rattle.sets.proofs.Tests.{not-t}
+use Rattle.admission.specs.Cover.{unionOf}
+use Rattle.refusals.specs.Outcome.{verdict}
+use Rattle.admission.specs.Calls.{covering}
+use Rattle.admission.proofs.Together.{uncovered}
+use borrow.Author.Needs.{needs}
+use Rattle.admission.proofs.admitting.judge_cover.Statement.{statement}
+use Rattle.admission.proofs.admitting.judge_cover.Tie as tie
+
+returns : tie.Need-returns
+unfolding verdict covering
+returns c =
+    let s = c .before .before .before .before .before in
+    let n = s .args .n in
+    let sets = s .args .sets .now in
+    let e : within (boards n) (unionOf sets (length sets)) ≡ false =
+    ap (λ x. within (boards x) (unionOf sets (length sets))) (let z : n ≡ min n 8 = omega (arith, s .pre .most-boards) in z)
+    ∙ sym (c .before .subset .ensures ∙ ap₂ within (c .before .before .all-boards .ensures) (c .before .before .before .union-of .ensures)) ∙ not-t _ (c .if1 .taken) in
+    rw (uncovered sets n e)
+
+pub judge-cover-spec : {M : Type 1} → statement M
+judge-cover-spec =
+    tie.close
+    (tie.spec
+    (λ c κs. search needs)
+    (λ c κs. search needs)
+    (λ c κs. search needs)
+    returns
+    (λ c κs. search needs)
+    (λ c. search needs))

@@ -1,0 +1,30 @@
+use Rattle.sets.specs.Sets.{union}
+use borrow.Author.Needs.{needs}
+use Rattle.admission.proofs.Pairs.{third-read}
+use Rattle.admission.proofs.admitting.third_held.Statement.{statement}
+use Rattle.admission.proofs.admitting.third_held.Tie as tie
+
+shared-slice-read-result : tie.Need-shared-slice-read-result
+unfolding union
+shared-slice-read-result c =
+    let s = c .before .before .before .before .before .before in
+    let a = s .args in
+    third-read a.n (a.sets .now) (a.holders .now) a.i a.j (c .before .outside-of .result) (s .pre .tabled) (c .before .outside-of .ensures) .0
+
+returns : tie.Need-returns
+unfolding union
+returns c =
+    let s = c .before .before .before .before .before .before in
+    let a = s .args in
+    third-read a.n (a.sets .now) (a.holders .now) a.i a.j (c .before .outside-of .result) (s .pre .tabled) (c .before .outside-of .ensures) .1
+
+pub third-held-spec : {M : Type 1} → statement M
+third-held-spec =
+    tie.close
+    (tie.spec
+    (λ c. search needs)
+    (λ c. search needs)
+    (λ c κs. search needs)
+    (λ c. search needs)
+    shared-slice-read-result
+    returns)

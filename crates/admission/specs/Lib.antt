@@ -1,0 +1,4 @@
+pub mod Cover
+pub mod Pairs
+pub mod Calls
+pub mod Claims

@@ -1,0 +1,3 @@
+// Admitting a list of sets.
+pub mod admitting;
+pub mod limits;

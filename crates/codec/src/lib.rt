@@ -1,0 +1,2 @@
+// Values, and how frames and sheets write them.
+pub mod value;

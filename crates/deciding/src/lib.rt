@@ -1,0 +1,2 @@
+// Reading the decision.
+pub mod deciding;

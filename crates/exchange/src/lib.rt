@@ -1,5 +1,0 @@
-// Handing in a frame, and writing one.
-mod later;
-pub mod receiving;
-pub mod sending;
-mod word;

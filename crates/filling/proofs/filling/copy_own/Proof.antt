@@ -1,0 +1,89 @@
+-- `copy_own` meets its contract: the board's own frame is written, and stored at its own children.
+-- Assumes nothing.
+use Prim.Native.Nat.{_-_, _*_, _≤_}
+use mathlib.Core.Path.{refl, _∙_}
+use native.Mathlib.Omega.{arith}
+use lib.ListN.{length, take}
+use borrow.Author.Needs.{needs}
+use Rattle.codec.specs.Codec.{width}
+use Rattle.protocol.proofs.Few.{carried-few}
+use Rattle.frames.proofs.Listed.{carried-walkable, front-fits, front-few, front-nodes, front-without, front-labels}
+use Rattle.filling.proofs.Filled.{own-copied}
+use Rattle.filling.proofs.filling.copy_own.Statement.{statement}
+use Rattle.filling.proofs.filling.copy_own.Tie as tie
+
+carried-nodes-requires : tie.Need-carried-nodes-requires
+carried-nodes-requires c κs =
+    let e = c .before .before .before .before in
+    carried-walkable (e .pre .0) (e .pre .1) (e .args .board) (e .pre .0 .board-below) _ refl
+
+part-write-at-end : tie.Need-part-write-at-end
+part-write-at-end c =
+    let e = c .before .before .before .before .before .before .before in
+    let x = c .before .before .carried-nodes in
+    front-fits (e .pre .0) (e .pre .1) (e .args .board) (x .ensures) (e .pre .0 .board-below) (x .kept .1 .1 .1 .1 .1 .0)
+
+write-at-requires : tie.Need-write-at-requires
+write-at-requires c κs =
+    let e = c .before .before .before .before .before .before .before .before .before .before in
+    let x = c .before .before .before .before .before .carried-nodes in
+    let few = front-few (e .pre .0) (e .pre .1) (e .args .board) (x .ensures) (e .pre .0 .board-below) in
+    (front-nodes (e .pre .0) (e .pre .1) (e .args .board) (x .ensures), e .pre .2, omega (arith, few))
+
+part-store-at-end : tie.Need-part-store-at-end
+part-store-at-end c =
+    let e = c .before .before .before .before .before .before .before .before .before .before .before .before .before in
+    let x = c .before .before .before .before .before .before .before .before .carried-nodes in
+    front-fits (e .pre .0) (e .pre .1) (e .args .board) (x .ensures) (e .pre .0 .board-below) (x .kept .1 .1 .1 .1 .1 .0)
+
+part-store-at-end-2 : tie.Need-part-store-at-end-2
+part-store-at-end-2 c =
+    let e = c .before .before .before .before .before .before .before .before .before .before .before .before .before .before .before in
+    let x = c .before .before .before .before .before .before .before .before .before .before .carried-nodes in
+    let y = c .before .before .before .before .write-at in
+    let fits : width * x .result ≤ length (y .last .1 .1 .1 .1 .0) =
+    omega (arith, x .ensures .counted, carried-few (e .args .plan) (e .args .board) (e .args .board) (e .args .round .0 - 1) (e .pre .0 .dealer-below) (e .pre .0 .most-boards) (e .pre .0 .board-below), y .kept .1 .1 .1 .1 .0) in
+    fits
+
+store-at-requires : tie.Need-store-at-requires
+store-at-requires c κs =
+    let e = c .before .before .before .before .before .before .before .before .before .before .before .before .before .before .before .before .before in
+    let x = c .before .before .before .before .before .before .before .before .before .before .before .before .carried-nodes in (
+      front-nodes (e .pre .0) (e .pre .1) (e .args .board) (x .ensures),
+      front-without (e .pre .0) (e .pre .1) (e .args .board) (x .ensures),
+      e .pre .0 .board-below,
+      e .pre .2,
+    )
+
+returns : tie.Need-returns
+returns c =
+    let e = c .before .before .before .before .before .before .before .before .before .before .before .before .before .before .before .before .before .before .before .before in
+    let a = e .args in
+    let x = c .before .before .before .before .before .before .before .before .before .before .before .before .before .before .before .carried-nodes in
+    let y = c .before .before .before .before .before .before .before .before .before .write-at in
+    c .before .before .store-at .ensures
+    ∙ own-copied (e .pre .0) (e .pre .1) (a.cells .now) (x .result) (take (x .result - 0) (x .last .1 .1 .1 .1 .1 .0)) (y .last .1 .1 .1 .1 .0) _ (x .ensures .counted)
+    (front-labels (e .pre .0) (e .pre .1) a.board (x .ensures)) (y .ensures)
+
+pub copy-own-spec : {M : Type 1} → statement M
+copy-own-spec =
+    tie.close
+    (tie.spec
+    (λ c. search needs)
+    (λ c. search needs)
+    carried-nodes-requires
+    (λ c. search needs)
+    (λ c. search needs)
+    part-write-at-end
+    (λ c. search needs)
+    write-at-requires
+    (λ c. search needs)
+    (λ c. search needs)
+    (λ c. search needs)
+    part-store-at-end
+    (λ c. search needs)
+    (λ c. search needs)
+    part-store-at-end-2
+    store-at-requires
+    (λ c. search needs)
+    returns)

@@ -1,0 +1,55 @@
+-- `silence` meets its contract: what is stored are no values, at the nodes that the frame carries.
+-- Assumes nothing.
+use mathlib.Core.Path.{refl, sym, ap₂, _∙_}
+use borrow.Author.Needs.{needs}
+use Rattle.codec.proofs.Codec.{decode-none}
+use Rattle.protocol.specs.Rounds.{fill}
+use Rattle.frames.proofs.Listed.{carried-walkable, front-fits, front-nodes, front-without, front-labels, sent-carried}
+use Rattle.filling.proofs.filling.silence.Statement.{statement}
+use Rattle.filling.proofs.filling.silence.Tie as tie
+
+carried-nodes-requires : tie.Need-carried-nodes-requires
+carried-nodes-requires c κs =
+    let e = c .before .before .before .before in
+    carried-walkable (e .pre .0) (e .pre .1) (e .args .q) (e .pre .2) _ refl
+
+part-store-at-end : tie.Need-part-store-at-end
+part-store-at-end c =
+    let e = c .before .before .before .before .before .before .before in
+    let x = c .before .before .carried-nodes in
+    front-fits (e .pre .0) (e .pre .1) (e .args .q) (x .ensures) (e .pre .2) (x .kept .1 .1 .1 .1 .1 .0)
+
+store-at-requires : tie.Need-store-at-requires
+store-at-requires c κs =
+    let e = c .before .before .before .before .before .before .before .before .before .before .before in
+    let l = c .before .before .before .before .before .before .carried-nodes .ensures in (
+      front-nodes (e .pre .0) (e .pre .1) (e .args .q) l,
+      front-without (e .pre .0) (e .pre .1) (e .args .q) l,
+      e .pre .2,
+      e .pre .3,
+    )
+
+returns : tie.Need-returns
+returns c =
+    let e = c .before .before .before .before .before .before .before .before .before .before .before .before .before .before in
+    let l = c .before .before .before .before .before .before .before .before .before .carried-nodes .ensures in
+    c .before .before .store-at .ensures
+    ∙ ap₂ (λ αs vs. fill (e .args .plan) (e .args .q) αs vs (e .args .cells .now))
+    (front-labels (e .pre .0) (e .pre .1) (e .args .q) l ∙ sym (sent-carried (e .pre .0) (e .pre .1) (e .args .q))) decode-none
+
+pub silence-spec : {M : Type 1} → statement M
+silence-spec =
+    tie.close
+    (tie.spec
+    (λ c. search needs)
+    (λ c. search needs)
+    carried-nodes-requires
+    (λ c. search needs)
+    (λ c. search needs)
+    part-store-at-end
+    (λ c. search needs)
+    (λ c. search needs)
+    (λ c. search needs)
+    store-at-requires
+    (λ c. search needs)
+    returns)

@@ -1,0 +1,216 @@
+-- Finding a frame line, and what is read of it.
+-- Assumes nothing.
+use Prim.Native.Nat.{ℕ, zero, suc, _+_, _-_, _*_, _/_, _≤_, _<_, min}
+use mathlib.Core.Path.{_≡_, refl, sym, ap, ap₂, _∙_}
+use mathlib.Core.Logic.{_≢_}
+use mathlib.Core.Bool.{true}
+use mathlib.Core.List.{List, [], _∷_, _++_}
+use mathlib.Core.Option.{Option, some, none}
+use native.Mathlib.Numerals.{add-one}
+use native.Mathlib.Omega.{arith}
+use lib.Dec.{ltb}
+use lib.ListN.{length, getD, take, drop, set, drop-of-length-le, length-drop, length-append, length-take}
+use lib.Seq.{getD-drop, take-at, take-all, set-at, drop-cons, append-snoc}
+use borrow.Author.Tests.{eq-eqb, lt-ltb, le-ltb, ltb-true, ltb-false}
+use Rattle.sets.proofs.Tests.{cases}
+use Rattle.schedule.specs.declared.rounds.Run.{Run}
+use Rattle.schedule.specs.declared.rounds.Round.{Round}
+use Rattle.protocol.specs.Sheet.{lines}
+use Rattle.hex.specs.Hex.{digit}
+use Rattle.protocol.specs.Playing.{findFrame}
+use Rattle.hex.specs.Bytes.{byteOf, byteAt, bytesFrom}
+use Rattle.hex.proofs.Bytes.{bytes-more, byte-below, bytes-length, bytes-take}
+use Rattle.text.proofs.LineEnds.{lines-none, lines-at}
+use Rattle.finding.specs.Frames.{lineFrame, framesOf, framesFrom, keyOf, frameKey, rising, Rising, skipFrames, readLength, readValues}
+use Rattle.finding.specs.Places.{lineStop, lineAt, frameAt}
+use Rattle.finding.proofs.ByKey.{skip-low, rising-skipped, find-none, find-skipped}
+
+-- Equal keys have equal bytes.
+pub key-same : (t k q i t′ k′ q′ i′ : ℕ) → k < 256 → q < 256 → i < 256 → k′ < 256 → q′ < 256 → i′ < 256 → keyOf t k q i ≡ keyOf t′ k′ q′ i′
+    → (t ≡ t′) × (k ≡ k′) × (q ≡ q′) × (i ≡ i′)
+unfolding keyOf
+key-same t k q i t′ k′ q′ i′ a b c a′ b′ c′ e = (omega arith, omega arith, omega arith, omega arith)
+
+-- The frames from the line at `at` on.
+module _ (text : List ℕ) (at : ℕ) where
+  frames-none : length text ≤ at → framesFrom text at ≡ []
+  unfolding framesFrom framesOf
+  frames-none l = ap framesOf (lines-none text at l)
+
+  frames-at : at < length text → framesFrom text at ≡ lineFrame (lineAt text at) ∷ framesFrom text (lineStop text at + 1)
+  unfolding framesFrom framesOf lineAt
+  frames-at l = ap framesOf (lines-at text at l)
+
+  abbrev line : List ℕ
+  line = lineAt text at
+
+  abbrev key : List ℕ → ℕ
+  key l = keyOf (byteAt l 0) (byteAt l 1) (byteAt l 2) (byteAt l 3)
+
+  -- With what the code has in hand: the line's end e and its key n.
+  module _ (e n : ℕ) (ends : e ≡ lineStop text at) (en : n ≡ key (take (e - at) (drop at text))) where
+    key-here : n ≡ frameKey (lineFrame line)
+    unfolding lineAt frameKey lineFrame
+    key-here = en ∙ ap (λ m. key (take (m - at) (drop at text))) ends
+
+    -- Skipping lines with keys below `least`.
+    pub skip-stop : (least : ℕ) → at < length text → least ≤ n → framesFrom text at ≡ skipFrames least (framesFrom text at)
+    unfolding skipFrames
+    skip-stop least l h = rw (frames-at l, le-ltb (frameKey (lineFrame line)) least (omega (arith, key-here))) refl
+
+    pub skip-line : (least : ℕ) → at < length text → n < least → skipFrames least (framesFrom text (e + 1)) ≡ skipFrames least (framesFrom text at)
+    unfolding skipFrames
+    skip-line least l h =
+        ap (λ m. skipFrames least (framesFrom text (m + 1))) ends
+        ∙ sym (rw (frames-at l, lt-ltb (frameKey (lineFrame line)) least (omega (arith, key-here))) refl)
+
+  pub skip-end : (least : ℕ) → length text ≤ at → framesFrom text at ≡ skipFrames least (framesFrom text at)
+  unfolding skipFrames
+  skip-end least l = rw (frames-none l) refl
+
+-- The frame that is looked for, by the place `at` that the search from `from` on stops at.
+module _ (text : List ℕ) (from at : ℕ) (t : Run) (k : Round) (q i w : ℕ) (ew : w ≡ keyOf (t .0) (k .0) q i) where
+  abbrev found : ℕ → Option (List ℕ)
+  found m = findFrame t k q i (framesFrom text m)
+
+  module _ (stops : framesFrom text at ≡ skipFrames w (framesFrom text from)) where
+    same : found at ≡ found from
+    same = ap (findFrame t k q i) stops ∙ find-skipped t k q i w (framesFrom text from) (omega arith)
+
+    pub search-end : length text ≤ at → frameAt text at ≡ found from
+    unfolding frameAt findFrame
+    search-end l = rw (le-ltb at (length text) l) (sym (ap (findFrame t k q i) (frames-none text at l)) ∙ same)
+
+    -- With what the code has in hand: the line's end e and its key n.
+    module _ (e n : ℕ) (ends : e ≡ lineStop text at) (en : n ≡ key text at (take (e - at) (drop at text))) (l : at < length text) where
+      abbrev here : List ℕ
+      here = lineAt text at
+
+      pub search-hit : k .0 < 256 → q < 256 → i < 256 → n ≡ w → frameAt text at ≡ found from
+      unfolding frameAt findFrame lineFrame frameKey
+      search-hit bk bq bi s =
+          let (et, ek, eq, ei) = key-same (byteAt here 0) (byteAt here 1) (byteAt here 2) (byteAt here 3) (t .0) (k .0) q i
+          (byte-below here 1) (byte-below here 2) (byte-below here 3) bk bq bi (sym (key-here text at e n ends en) ∙ s ∙ ew) in
+          rw (
+            lt-ltb at (length text) l,
+            frames-at text at l,
+            eq-eqb (byteAt here 0) (t .0) et,
+            eq-eqb (byteAt here 1) (k .0) ek,
+            eq-eqb (byteAt here 2) q eq,
+            eq-eqb (byteAt here 3) i ei,
+          ) refl
+          ∙ same
+
+      pub search-none : Rising text from → n ≢ w → frameAt text (length text) ≡ found from
+      unfolding frameAt
+      search-none up ne =
+          let first = frames-at text at l in
+          let low = skip-low w (framesFrom text from) (lineFrame here) (framesFrom text (lineStop text at + 1)) (sym stops ∙ first) in
+          let up′ : rising 0 (framesFrom text at) ≡ true = rw stops (rising-skipped w (framesFrom text from) up) in
+          rw (le-ltb (length text) (length text) (omega arith))
+          (sym (find-none t k q i (framesFrom text at) (lineFrame here) (framesFrom text (lineStop text at + 1)) up′ first (omega (arith, key-here text at e n ends en))) ∙ same)
+
+-- The values stand after the first eight digits.
+byte-later : (line : List ℕ) (j : ℕ) → byteAt (drop 8 line) j ≡ byteAt line (4 + j)
+unfolding byteAt
+byte-later line j =
+    let x : 8 + 2 * j ≡ 2 * (4 + j) = omega arith in
+    let y : 8 + (2 * j + 1) ≡ 2 * (4 + j) + 1 = omega arith in
+    ap₂ (λ u v. byteOf (digit u) (digit v))
+    (getD-drop 8 line (2 * j) 0 ∙ ap (λ m. getD line m 0) x) (getD-drop 8 line (2 * j + 1) 0 ∙ ap (λ m. getD line m 0) y)
+
+bytes-later : (line : List ℕ) (j k : ℕ) → bytesFrom (drop 8 line) j k ≡ bytesFrom line (4 + j) k
+unfolding bytesFrom
+bytes-later line j zero = refl
+bytes-later line j (suc k) =
+    let z : 4 + suc j ≡ suc (4 + j) = omega arith in
+    ap₂ _∷_ (byte-later line j) (bytes-later line (suc j) k ∙ ap (λ m. bytesFrom line m k) z)
+
+pub values-later : (line : List ℕ) → bytesFrom (drop 8 line) 0 (length (drop 8 line) / 2) ≡ lineFrame line .values
+unfolding lineFrame
+values-later line =
+    let z : length (drop 8 line) / 2 ≡ length line / 2 - 4 = omega (arith, length-drop 8 line) in
+    ap (bytesFrom (drop 8 line) 0) z ∙ bytes-later line 0 (length line / 2 - 4)
+
+-- Decoding: the first i bytes, and the buffer as it came after them.
+module _ (digits buffer : List ℕ) where
+  abbrev pub decoded : ℕ → List ℕ
+  decoded i = bytesFrom digits 0 i ++ drop i buffer
+
+  pub decoded-none : buffer ≡ decoded 0
+  unfolding bytesFrom
+  decoded-none = refl
+
+  pub decoded-more : (i v : ℕ) → i < length buffer → v ≡ byteAt digits i → set (decoded i) i v ≡ decoded (i + 1)
+  decoded-more i v l e =
+      let z : 0 + i ≡ i = omega arith in
+      let more : bytesFrom digits 0 (i + 1) ≡ bytesFrom digits 0 i ++ (v ∷ []) =
+      ap (bytesFrom digits 0) (add-one i) ∙ bytes-more digits 0 i ∙ ap (λ x. bytesFrom digits 0 i ++ (x ∷ [])) (ap (byteAt digits) z ∙ sym e) in
+      ap (λ x. set (bytesFrom digits 0 i ++ x) i v) (drop-cons buffer i 0 l)
+      ∙ set-at (bytesFrom digits 0 i) (getD buffer i 0) (drop (suc i) buffer) v i (bytes-length digits 0 i)
+      ∙ sym (append-snoc (bytesFrom digits 0 i) v (drop (suc i) buffer))
+      ∙ ap₂ (λ x m. x ++ drop m buffer) (sym more) (sym (add-one i))
+
+  pub decoded-length : (i : ℕ) → i ≤ length buffer → length (decoded i) ≡ length buffer
+  decoded-length i l =
+      let a = length-append (bytesFrom digits 0 i) (drop i buffer) in
+      omega (arith, a, bytes-length digits 0 i, length-drop i buffer)
+
+  -- All that the buffer takes.
+  pub decoded-all : decoded (min (length digits / 2) (length buffer)) ≡ readValues (some (bytesFrom digits 0 (length digits / 2))) buffer
+  unfolding readValues
+  decoded-all =
+      let n = length digits / 2 in
+      let r = length buffer in
+      let size = bytes-length digits 0 n in
+      cases (ltb n r)
+      (λ x. let l = ltb-true n r x in
+      let m : min n r ≡ n = omega arith in
+      ap decoded m ∙ ap₂ (λ a k. a ++ drop k buffer) (sym (take-all r (bytesFrom digits 0 n) (omega arith))) (sym size))
+      (λ x. let l = ltb-false n r x in
+      let m : min n r ≡ r = omega arith in
+      ap decoded m
+      ∙ ap₂ _++_ (sym (bytes-take digits r 0 n l)) (drop-of-length-le buffer {i = r} (omega arith) ∙ sym (drop-of-length-le buffer {i = length (bytesFrom digits 0 n)} (omega arith))))
+
+-- What is read of the frame at a place.
+module _ (v : Option (List ℕ)) (text buffer : List ℕ) (at : ℕ) (here : frameAt text at ≡ v) where
+  pub read-missing : length text ≤ at → (none ≡ readLength v (length buffer)) × (buffer ≡ readValues v buffer)
+  unfolding frameAt readLength readValues
+  read-missing l =
+      let x : none ≡ v = rw (le-ltb at (length text) l) at here in
+      rw (← x) (refl, refl)
+
+  -- With what the code has in hand: the line's end e, the digits, how many values were read, and the buffer at the end.
+  pub read-found : at < length text → (e r : ℕ) (digits last : List ℕ) → e ≡ lineStop text at → digits ≡ drop 8 (take (e - at) (drop at text))
+      → r ≡ min (length digits / 2) (length buffer) → last ≡ readValues (some (bytesFrom digits 0 (length digits / 2))) buffer
+      → (some r ≡ readLength v (length buffer)) × (last ≡ readValues v buffer)
+  unfolding frameAt lineAt readLength
+  read-found l e r digits last ends ed er el =
+      let line = lineAt text at in
+      let vs = bytesFrom digits 0 (length digits / 2) in
+      let same : digits ≡ drop 8 line = ed ∙ ap (λ m. drop 8 (take (m - at) (drop at text))) ends in
+      let is : some (lineFrame line .values) ≡ v = rw (lt-ltb at (length text) l) at here in
+      let values : some vs ≡ v = ap (λ d. some (bytesFrom d 0 (length d / 2))) same ∙ ap some (values-later line) ∙ is in (
+        ap some (er ∙ ap (λ n. min n (length buffer)) (sym (bytes-length digits 0 (length digits / 2)))) ∙ ap (λ o. readLength o (length buffer)) values,
+        el ∙ ap (λ o. readValues o buffer) values,
+      )
+
+-- For callers: what was read is what the buffer takes of the frame's values.
+pub read-missed : (v : Option (List ℕ)) (room : ℕ) → readLength v room ≡ none → v ≡ none
+unfolding readLength
+read-missed none room e = refl
+read-missed (some vs) room e = let z : _≡_ {A = ℕ} 0 1 = cc in absurd (omega arith)
+
+pub read-frame-is : (v : Option (List ℕ)) (room k : ℕ) → readLength v room ≡ some k → (vs : List ℕ) × (v ≡ some vs) × (k ≡ min (length vs) room)
+unfolding readLength
+read-frame-is none room k e = let z : _≡_ {A = ℕ} 0 1 = cc in absurd (omega arith)
+read-frame-is (some vs) room k e = (vs, refl, let z : k ≡ min (length vs) room = cc in z)
+
+pub read-taken : (v : Option (List ℕ)) (vs buffer : List ℕ) (room k : ℕ) → v ≡ some vs → length buffer ≡ room → readLength v room ≡ some k
+    → take k (readValues v buffer) ≡ take room vs
+unfolding readLength readValues
+read-taken v vs buffer room k x r e =
+    let y : some (min (length vs) room) ≡ some k = rw x at e in
+    let z : min (length vs) room ≡ k = cc in
+    let size : length (take (length buffer) vs) ≡ k = omega (arith, length-take (length buffer) vs) in
+    ap (λ o. take k (readValues o buffer)) x ∙ take-at (take (length buffer) vs) (drop (length vs) buffer) k size ∙ ap (λ m. take m vs) r

@@ -1,0 +1,2 @@
+pub mod ByKey
+pub mod FrameSearch

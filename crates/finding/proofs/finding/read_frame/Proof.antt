@@ -1,0 +1,56 @@
+-- `read_frame` meets its contract.
+-- Assumes nothing.
+use native.Mathlib.Omega.{arith}
+use borrow.Author.Needs.{needs}
+use Rattle.protocol.specs.Playing.{findFrame}
+use Rattle.text.proofs.LineEnds.{stop-ge, stop-le}
+use Rattle.finding.specs.Frames.{framesFrom, foundSays}
+use Rattle.finding.proofs.FrameSearch.{read-missing, read-found}
+use Rattle.finding.proofs.finding.read_frame.Statement.{statement}
+use Rattle.finding.proofs.finding.read_frame.Tie as tie
+
+returns : tie.Need-returns
+unfolding foundSays
+returns c =
+    let a = c .before .before .before .before .args in
+    let f = c .before .find-line in
+    read-missing (findFrame a.run a.round a.sender a.receiver (framesFrom (a.text .now) a.from)) (a.text .now) (a.values .now) (f .result) (f .ensures) (c .if1 .taken)
+
+sub-values-of : tie.Need-sub-values-of
+sub-values-of c =
+    let a = c .before .before .before .before .before .args in
+    omega (arith, c .line-end .ensures, stop-ge (a.text .now) (c .before .before .find-line .result))
+
+part-values-of-start : tie.Need-part-values-of-start
+part-values-of-start c =
+    let a = c .before .before .before .before .before .args in
+    omega (arith, c .line-end .ensures, stop-ge (a.text .now) (c .before .before .find-line .result))
+
+part-values-of-end : tie.Need-part-values-of-end
+part-values-of-end c =
+    let a = c .before .before .before .before .before .args in
+    omega (arith, c .line-end .ensures, stop-le (a.text .now) (c .before .before .find-line .result) (omega arith))
+
+returns-2 : tie.Need-returns-2
+unfolding foundSays
+returns-2 c =
+    let a = c .before .before .before .before .before .before .before .before .before .before .before .args in
+    let f = c .before .before .before .before .before .before .before .before .find-line in
+    let d = c .before .before .decode in
+    read-found (findFrame a.run a.round a.sender a.receiver (framesFrom (a.text .now) a.from)) (a.text .now) (a.values .now) (f .result) (f .ensures) (omega arith)
+    (c .before .before .before .before .before .before .line-end .result) (d .result) _ (d .last .1 .0) (c .before .before .before .before .before .before .line-end .ensures) (c .before .before .before .before .values-of .ensures) (d .ensures .0) (d .ensures .1)
+
+pub read-frame-spec : {M : Type 1} → statement M
+read-frame-spec =
+    tie.close
+    (tie.spec
+    (λ c κs. search needs)
+    returns
+    (λ c κs. search needs)
+    sub-values-of
+    part-values-of-start
+    part-values-of-end
+    (λ c κs. search needs)
+    (λ c κs. search needs)
+    (λ c. search needs)
+    returns-2)

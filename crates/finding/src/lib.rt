@@ -1,0 +1,3 @@
+// Finding a frame of a sheet.
+pub mod finding;
+pub mod keys;

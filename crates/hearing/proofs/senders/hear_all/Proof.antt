@@ -1,0 +1,66 @@
+-- `hear_all` meets its contract: one sender more each turn.
+-- Assumes nothing.
+use Prim.Native.Nat.{_-_, _≤_}
+use mathlib.Core.Path.{_≡_, refl, ap, ap₂, _∙_}
+use native.Mathlib.Omega.{arith}
+use lib.ListN.{length}
+use Rattle.finding.specs.Frames.{framesFrom}
+use Rattle.stage.specs.Stage.{Stage}
+use Rattle.hearing.specs.Hearing.{hearSenders}
+use Rattle.hearing.proofs.Sender.{heard-more}
+use borrow.Author.Needs.{needs}
+use Rattle.hearing.proofs.senders.hear_all.Statement.{statement}
+use Rattle.hearing.proofs.senders.hear_all.Tie as tie
+
+abbrev Inv-loop : tie.InvT-loop
+Inv-loop head text from cells₀ n all₀ q₀ cells all q =
+    (q ≤ n) × (_≡_ {A = Stage} (record { recs = all; cells = cells }) (hearSenders head (framesFrom text from) q (record { recs = all₀; cells = cells₀ }))) × (length cells ≡ length cells₀)
+
+abbrev μ-loop : tie.MeasureT-loop
+μ-loop head text from cells₀ n all₀ q₀ cells all q = n - q
+
+loop-holds : tie.Need-loop-holds Inv-loop μ-loop
+unfolding hearSenders
+loop-holds c = (search needs, refl, refl)
+
+hear-sender-requires : tie.Need-hear-sender-requires Inv-loop μ-loop
+hear-sender-requires c κs =
+    let s = c .before .before .before .before .before in
+    let l = c .before .before .loop in
+    (record { few = s .pre .few; room = omega (arith, s .pre .room, l .inv .2); rising = s .pre .rising }, omega arith)
+
+loop-again : tie.Need-loop-again Inv-loop μ-loop
+loop-again c =
+    let a = c .before .before .before .before .before .before .before .before .args in
+    let l = c .before .before .before .before .before .loop in
+    let d = c .before .before .hear-sender in
+    let fs = framesFrom (a.text .now) a.from in (
+      omega arith,
+      ap₂ (λ u v. record { recs = u; cells = v }) (d .ensures .0) (d .ensures .1)
+          ∙ heard-more a.head fs l.q (record { recs = l.all; cells = l.cells }) (record { recs = a.records; cells = a.cells .now }) (l .inv .1),
+      d .kept .1 .1 .1 .1 .1 .0 ∙ l .inv .2,
+    )
+
+same-length : tie.Need-same-length Inv-loop μ-loop
+same-length c = c .before .loop .inv .2
+
+returns : tie.Need-returns Inv-loop μ-loop
+returns c =
+    let a = c .before .before .before .before .args in
+    let l = c .before .loop in
+    let e = l .inv .1 ∙ ap (λ m. hearSenders a.head (framesFrom (a.text .now) a.from) m (record { recs = a.records; cells = a.cells .now })) (let h : l.q ≡ a.head .plan .n = omega arith in h) in
+    (ap (λ x. x .recs) e, ap (λ x. x .cells) e)
+
+pub hear-all-spec : {M : Type 1} → statement M
+hear-all-spec =
+    tie.close
+    (tie.spec
+    Inv-loop
+    μ-loop
+    loop-holds
+    hear-sender-requires
+    (λ c. search needs)
+    (λ c. search needs)
+    loop-again
+    same-length
+    returns)

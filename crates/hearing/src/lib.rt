@@ -1,0 +1,2 @@
+// All boards hear all others.
+pub mod senders;

@@ -1,0 +1,3 @@
+pub mod Hex
+pub mod Bytes
+pub mod Claims

@@ -1,0 +1,4 @@
+// Handing in a frame.
+mod later;
+pub mod receiving;
+mod word;

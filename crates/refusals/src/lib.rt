@@ -1,0 +1,2 @@
+// The refusals of all calls, with their numbers.
+pub mod refusal;

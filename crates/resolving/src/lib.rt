@@ -1,0 +1,2 @@
+// Resolving every node in place.
+pub mod resolving;

@@ -1,0 +1,4 @@
+pub mod Levels
+pub mod HasRound
+pub mod Height
+pub mod Steps

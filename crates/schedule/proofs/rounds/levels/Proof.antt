@@ -1,0 +1,34 @@
+use Rattle.schedule.specs.Schedule.{height, largest}
+use Rattle.plan.proofs.Slots.{slots-listed}
+use Prim.Native.Nat.{min, _+_, _-_}
+use mathlib.Core.Path.{_≡_, ap, _∙_}
+use native.Mathlib.Omega.{arith}
+use lib.ListN.{length, take}
+use borrow.Author.Needs.{needs}
+use Rattle.schedule.proofs.rounds.levels.Statement.{statement}
+use Rattle.schedule.proofs.rounds.levels.Tie as tie
+
+part-largest-with-end : tie.Need-part-largest-with-end
+part-largest-with-end c =
+    let h : length (c .before .before .before .args .plan .sets) ≡ 32 = search needs in
+    omega arith
+
+returns : tie.Need-returns
+unfolding height
+returns c =
+    let p = c .before .before .before .before .before .args .plan in
+    let h : length (p .sets) ≡ 32 = search needs in
+    let k : c .before .before .before .slots-used .result - 0 ≡ min (p .count) 32 = omega arith in
+    (ap (λ x. x + 1) (c .largest-with .ensures .0 ∙ ap (λ x. largest x (p .dealer)) (ap (λ m. take m (p .sets)) k ∙ slots-listed p h)), omega arith)
+
+pub levels-spec : {M : Type 1} → statement M
+levels-spec =
+    tie.close
+    (tie.spec
+    (λ c κs. search needs)
+    (λ c. search needs)
+    (λ c. search needs)
+    part-largest-with-end
+    (λ c κs. search needs)
+    (λ c. search needs)
+    returns)

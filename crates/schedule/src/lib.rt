@@ -1,0 +1,2 @@
+// Levels, rounds and runs of a plan.
+pub mod rounds;

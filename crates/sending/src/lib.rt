@@ -1,0 +1,3 @@
+// Writing a frame.
+mod later;
+pub mod sending;

@@ -1,0 +1,42 @@
+// Writing a frame.
+use crate::later::write_later;
+use codec::value::Value;
+use judging::judging::judge_open;
+use plan::plan::Plan;
+use protocol::answers::Sent;
+use protocol::records::Record;
+use refusals::refusal::Refusal;
+use refusals::refusal::Verdict;
+use schedule::rounds::Round;
+ghost use mathlib.Core.Path.{_≡_};
+ghost use Prim.Native.Nat.{_≤_};
+ghost use lib.ListN.{length};
+ghost use Rattle.tree.specs.Places.{cellCount};
+ghost use Rattle.protocol.specs.Answers.{sentSays};
+ghost use Rattle.protocol.specs.Calls.{sending};
+ghost use Rattle.frames.specs.Nodes.{Stands};
+ghost use Rattle.sending.specs.Writing.{Writes};
+ghost use Rattle.protocol.specs.Rounds.{boardWith};
+
+// 16, 17, then the frame is written. In round 1 only the dealer sends.
+fn write(plan: Plan, board: u8, round: Round, cells: &[Value], out: &mut [u8]) -> Sent
+    requires { ⌜ Stands plan board round × (cellCount (plan .n) ≤ length (now cells)) ⌝ }
+    ensures { λ x. ⌜ Writes plan board round (now (cells .entry)) (now (out .entry)) (sentSays x) (now (out .exit)) ⌝ }
+{
+    let k = round.0;
+    if k == 1 {
+        return Sent::Refused(Refusal::NothingToSend);
+    }
+    let holders = plan.holders();
+    write_later(plan, &holders, board, round, cells, out)
+}
+
+// Writing a frame.
+pub fn send(r: Record, cells: &[Value], out: &mut [u8]) -> Sent
+    ensures { λ x. ⌜ (sentSays x ≡ sending (boardWith r (now (cells .entry))) (now (out .entry)) .answer) × (now (out .exit) ≡ sending (boardWith r (now (cells .entry))) (now (out .entry)) .out) ⌝ }
+{
+    match judge_open(r, cells) {
+        Verdict::Refused(why) => Sent::Refused(why),
+        Verdict::Accepted => write(r.plan, r.board, r.round, cells, out),
+    }
+}

@@ -1,0 +1,102 @@
+-- `play_rounds` meets its contract: one step more each turn, with what is left of the frames.
+-- Assumes nothing.
+use Prim.Native.Nat.{_-_, _≤_}
+use mathlib.Core.Path.{_≡_, refl, ap, ap₂, _∙_}
+use mathlib.Core.List.{[]}
+use native.Mathlib.Omega.{arith}
+use lib.ListN.{length, replicate}
+use borrow.Author.Needs.{needs}
+use Rattle.protocol.specs.Calls.{voidRecord}
+use Rattle.finding.specs.Frames.{framesFrom, rising, skipFrames}
+use Rattle.finding.proofs.ByKey.{rising-skipped}
+use Rattle.stage.specs.Stage.{Stage, actAll}
+use Rattle.sheet.specs.Steps.{stepKey, framesLeft, playSteps}
+use Rattle.stage.specs.declared.acting.Act.the-variants.{Begin}
+use Rattle.sheet.proofs.Steps.{left-more, played-more, left-rising}
+use Rattle.sheet.proofs.rounds.play_rounds.Statement.{statement}
+use Rattle.sheet.proofs.rounds.play_rounds.Tie as tie
+
+abbrev Inv-loop : tie.InvT-loop
+Inv-loop head text from cells₀ plan steps all₀ at₀ j₀ cells all at j =
+    (j ≤ steps) × ((t : Stage) → _≡_ {A = Stage} (record { recs = all₀; cells = cells₀ }) (playSteps head (framesFrom text from) 0 t) → _≡_ {A = Stage} (record { recs = all; cells = cells }) (playSteps head (framesFrom text from) j t)) × (length cells ≡ length cells₀) × (framesFrom text at ≡ framesLeft (head .plan) j (framesFrom text from))
+
+abbrev μ-loop : tie.MeasureT-loop
+μ-loop head text from cells₀ plan steps all₀ at₀ j₀ cells all at j = steps - j
+
+act-all-requires : tie.Need-act-all-requires Inv-loop μ-loop
+act-all-requires c κs = c .before .before .before .before .before .before .before .pre
+
+loop-holds : tie.Need-loop-holds Inv-loop μ-loop
+unfolding framesLeft
+loop-holds c = (search needs, λ t e. e, refl, refl)
+
+skip-to-step-requires : tie.Need-skip-to-step-requires Inv-loop μ-loop
+skip-to-step-requires c κs = omega (arith, c .before .before .before .before .before .before .before .before .all-rounds .ensures)
+
+play-round-requires : tie.Need-play-round-requires Inv-loop μ-loop
+play-round-requires c κs =
+    let s = c .before .before .before .before .before .before .before .before .before .before .before .before .before .before in
+    let a = s .args in
+    let l = c .before .before .before .loop in
+    let fs = framesFrom (a.text .now) a.from in
+    let k = c .before .before .before .before .before .before .act-all .kept .1 .1 .1 .1 .1 .1 .0 in
+    let rest = c .before .skip-to-step .ensures ∙ ap (skipFrames (stepKey (a.head .plan) l.j)) (l .inv .3) in
+    record {
+      few = s .pre .few;
+      room = omega (arith, s .pre .room, l .inv .2, k);
+      rising = ap (rising 0) rest ∙ rising-skipped (stepKey (a.head .plan) l.j) (framesLeft (a.head .plan) l.j fs) (left-rising (a.head .plan) l.j fs (s .pre .rising));
+    }
+
+loop-again : tie.Need-loop-again Inv-loop μ-loop
+loop-again c =
+    let a = c .before .before .before .before .before .before .before .before .before .before .before .before .before .before .before .before .before .args in
+    let l = c .before .before .before .before .before .before .loop in
+    let d = c .before .before .play-round in
+    let at = c .before .before .before .before .skip-to-step in
+    let fs = framesFrom (a.text .now) a.from in
+    let rest = at .ensures ∙ ap (skipFrames (stepKey (a.head .plan) l.j)) (l .inv .3) in (
+      omega arith,
+      λ t e. ap₂ (λ u v. record { recs = u; cells = v }) (d .ensures .0) (d .ensures .1)
+          ∙ played-more a.head fs (framesFrom (a.text .now) (at .result)) l.j (record { recs = l.all; cells = l.cells }) t rest (l .inv .1 t e),
+      d .kept .1 .1 .1 .1 .0 ∙ l .inv .2,
+      rest ∙ left-more (a.head .plan) l.j fs,
+    )
+
+same-length : tie.Need-same-length Inv-loop μ-loop
+same-length c = c .before .loop .inv .2 ∙ c .before .before .before .before .act-all .kept .1 .1 .1 .1 .1 .1 .0
+
+returns : tie.Need-returns Inv-loop μ-loop
+unfolding playSteps
+returns c =
+    let a = c .before .before .before .before .before .before .before .before .before .before .before .before .args in
+    let l = c .before .loop in
+    let d = c .before .before .before .before .act-all in
+    let v = c .before .before .before .before .before .before .void-records in
+    let z = c .before .before .before .before .before .before .before .before .all-rounds in
+    let fs = framesFrom (a.text .now) a.from in
+    let t : Stage = record { recs = replicate 7 voidRecord; cells = a.cells .now } in
+    let start = ap₂ (λ x y. record { recs = x; cells = y }) (d .ensures .0) (d .ensures .1)
+    ∙ ap (λ x. actAll a.head Begin fs [] (a.head .plan .n) (record { recs = x; cells = a.cells .now })) (v .ensures) in
+    let e = l .inv .1 t start ∙ ap (λ m. playSteps a.head fs m t) (let h : l.j ≡ z .result = omega arith in h ∙ z .ensures) in
+    (ap (λ x. x .recs) e, ap (λ x. x .cells) e)
+
+pub play-rounds-spec : {M : Type 1} → statement M
+play-rounds-spec =
+    tie.close
+    (tie.spec
+    Inv-loop
+    μ-loop
+    (λ c κs. search needs)
+    (λ c. search needs)
+    (λ c. search needs)
+    (λ c. search needs)
+    (λ c κs. search needs)
+    act-all-requires
+    loop-holds
+    skip-to-step-requires
+    play-round-requires
+    (λ c. search needs)
+    (λ c. search needs)
+    loop-again
+    same-length
+    returns)

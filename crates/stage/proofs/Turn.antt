@@ -1,0 +1,60 @@
+-- One board more has acted: what the code has in hand.
+-- Assumes nothing.
+use Prim.Native.Nat.{ℕ, _+_, _-_, _*_}
+use mathlib.Core.Path.{_≡_, ap, ap₂, _∙_}
+use mathlib.Core.Bool.{true, false}
+use mathlib.Core.List.{List, _++_}
+use native.Mathlib.Numerals.{add-one}
+use native.Mathlib.Omega.{arith}
+use lib.ListN.{length, getD, set, take, drop, length-append, length-take, length-drop}
+use lib.Seq.{drop-drop}
+use Rattle.tree.specs.Places.{cellCount}
+use Rattle.protocol.specs.declared.records.Record.{Record}
+use Rattle.protocol.specs.Rounds.{boardWith, Board}
+use Rattle.protocol.specs.Sheet.{Frame}
+use Rattle.protocol.specs.Playing.{part, replacePart}
+use Rattle.text.specs.declared.head.Head.{Head}
+use Rattle.stage.specs.declared.acting.Act.{Act}
+use Rattle.stage.specs.Stage.{Stage, noRecord, boardOn, keeps, acted, putBoard, actAll}
+
+pub length-lent : (xs ys : List ℕ) (a k : ℕ) → length ys ≡ length (take k (drop a xs)) → length (take a xs ++ (ys ++ drop k (drop a xs))) ≡ length xs
+length-lent xs ys a k e = simp (length-append, e, length-drop, length-take) (omega arith)
+
+module _ (h : Head) (act : Act) (fs : List Frame) (f : List ℕ) (t : Stage) (i : ℕ) where
+  pub turn-kept : (st : Stage) → st ≡ actAll h act fs f i t → keeps h i ≡ true
+      → putBoard (h .plan .n) i (acted (h .plan) act fs f i (boardOn (h .plan .n) st i)) st ≡ actAll h act fs f (i + 1) t
+  unfolding actAll
+  turn-kept st e k = rw (add-one i, k) (ap (λ x. putBoard (h .plan .n) i (acted (h .plan) act fs f i (boardOn (h .plan .n) x i)) x) e)
+
+  pub turn-left : (st : Stage) → st ≡ actAll h act fs f i t → keeps h i ≡ false → st ≡ actAll h act fs f (i + 1) t
+  unfolding actAll
+  turn-left st e k = rw (add-one i, k) e
+
+  -- With the part of the cells as it is lent.
+  module _ (recs : List Record) (cells : List ℕ) (c : ℕ) (size : c ≡ cellCount (h .plan .n)) (x : Record) (ys : List ℕ) where
+    abbrev lent : Board
+    lent = boardWith (getD recs i noRecord) (take (i * c + c - i * c) (drop (i * c) cells))
+
+    abbrev left : Stage
+    left = record { recs = set recs i x; cells = take (i * c) cells ++ (ys ++ drop (i * c + c - i * c) (drop (i * c) cells)) }
+
+    lent-is : lent ≡ boardOn (h .plan .n) (record { recs = recs; cells = cells }) i
+    unfolding boardOn part
+    lent-is =
+        ap (λ k. boardWith (getD recs i noRecord) (take k (drop (i * c) cells))) (let z : i * c + c - i * c ≡ c = omega arith in z)
+        ∙ ap (λ k. boardWith (getD recs i noRecord) (take k (drop (i * k) cells))) size
+
+    left-is : (b : Board) → x ≡ b .rec → ys ≡ b .cells → left ≡ putBoard (h .plan .n) i b (record { recs = recs; cells = cells })
+    unfolding putBoard replacePart
+    left-is b ex ey =
+        ap (λ k. record { recs = set recs i x; cells = take (i * c) cells ++ (ys ++ drop k (drop (i * c) cells)) }) (let z : i * c + c - i * c ≡ c = omega arith in z)
+        ∙ ap (λ k. record { recs = set recs i x; cells = take (i * c) cells ++ (ys ++ k) }) (drop-drop c (i * c) cells)
+        ∙ ap (λ k. record { recs = set recs i x; cells = take (i * k) cells ++ (ys ++ drop (i * k + k) cells) }) size
+        ∙ ap₂ (λ u v. record { recs = set recs i u; cells = take (i * cellCount (h .plan .n)) cells ++ (v ++ drop (i * cellCount (h .plan .n) + cellCount (h .plan .n)) cells) }) ex ey
+
+    pub turn : _≡_ {A = Stage} (record { recs = recs; cells = cells }) (actAll h act fs f i t) → keeps h i ≡ true
+        → x ≡ acted (h .plan) act fs f i lent .rec → ys ≡ acted (h .plan) act fs f i lent .cells → left ≡ actAll h act fs f (i + 1) t
+    turn e k ex ey =
+        let b = acted (h .plan) act fs f i (boardOn (h .plan .n) (record { recs = recs; cells = cells }) i) in
+        left-is b (ex ∙ ap (λ y. acted (h .plan) act fs f i y .rec) lent-is) (ey ∙ ap (λ y. acted (h .plan) act fs f i y .cells) lent-is)
+        ∙ turn-kept (record { recs = recs; cells = cells }) e k

@@ -1,0 +1,137 @@
+-- The head that a line's bytes give.
+-- Assumes nothing.
+use Prim.Native.Nat.{ℕ, suc, _+_, _-_, _/_, _<_, min}
+use mathlib.Core.Path.{_≡_, refl, sym, ap, ap₂, _∙_}
+use mathlib.Core.Logic.{_≢_}
+use mathlib.Core.Bool.{true, false, not, _&&_, _||_, cond}
+use mathlib.Core.List.{List, [], _∷_, _++_}
+use native.Mathlib.Numerals.{add-one}
+use native.Mathlib.Omega.{arith}
+use lib.Dec.{eqb, leb, ltb}
+use lib.ListN.{length, getD, take, drop, set, replicate}
+use lib.Seq.{set-at, take-at, append-snoc}
+use borrow.Author.Tests.{eq-eqb, ne-eqb, eqb-true, eqb-false, le-ltb}
+use Rattle.codec.specs.Codec.{numberAt}
+use Rattle.sets.specs.Sets.{within, boards}
+use Rattle.sets.specs.Structure.{tolerated}
+use Rattle.sets.proofs.Tests.{cases, or-right, true-not}
+use Rattle.refusals.specs.Outcome.{Outcome, taken, refused, andThen}
+use Rattle.plan.specs.declared.plan.Plan.{Plan}
+use Rattle.plan.specs.declared.plan.Settings.{Settings}
+use Rattle.plan.specs.Calls.{planning, planned, judged}
+use Rattle.refusals.proofs.Outcomes.{refused-first, both-taken}
+use Rattle.plan.proofs.Accepted.{accepted, planned-judged}
+use Rattle.protocol.specs.Sheet.{headOf, headPlan, judgeHead}
+use Rattle.hex.specs.Bytes.{byteAt, bytesFrom}
+use Rattle.text.specs.Text.{headFrom, lineSettings}
+use Rattle.hex.proofs.Bytes.{bytes-length, bytes-drop, bytes-take, bytes-more, all, all-at}
+
+module _ (line : List ℕ) where
+  -- The first k sets, and 00 in the other slots.
+  abbrev pub slots : ℕ → List ℕ
+  slots k = bytesFrom line 6 k ++ replicate (255 - k) 0
+
+  pub slots-start : replicate 255 0 ≡ slots 0
+  unfolding bytesFrom
+  slots-start = refl
+
+  pub slots-more : (k : ℕ) → k < 255 → set (slots k) k (byteAt line (k + 6)) ≡ slots (k + 1)
+  slots-more k l =
+      let r : replicate {A = ℕ} (255 - k) 0 ≡ 0 ∷ replicate (255 - (k + 1)) 0 =
+      ap (λ m. replicate {A = ℕ} m 0) (let z : 255 - k ≡ suc (255 - (k + 1)) = omega arith in z) in
+      let v = byteAt line (k + 6) in
+      let more : bytesFrom line 6 (k + 1) ≡ bytesFrom line 6 k ++ (v ∷ []) =
+      ap (bytesFrom line 6) (add-one k) ∙ bytes-more line 6 k ∙ ap (λ x. bytesFrom line 6 k ++ (byteAt line x ∷ [])) (let z : 6 + k ≡ k + 6 = omega arith in z) in
+      ap (λ x. set (bytesFrom line 6 k ++ x) k v) r
+      ∙ set-at (bytesFrom line 6 k) 0 (replicate (255 - (k + 1)) 0) v k (bytes-length line 6 k)
+      ∙ sym (append-snoc (bytesFrom line 6 k) v (replicate (255 - (k + 1)) 0))
+      ∙ ap (λ x. x ++ replicate (255 - (k + 1)) 0) (sym more)
+
+  -- The head's sets and its faulty boards.
+  sets-are : length line / 2 ≡ byteAt line 5 + 6 + 1 → take (byteAt line 5) (drop 6 (all line)) ≡ bytesFrom line 6 (byteAt line 5)
+  sets-are e =
+      ap (take (byteAt line 5)) (bytes-drop line 6 0 (length line / 2) (omega arith)) ∙ bytes-take line (byteAt line 5) 6 (length line / 2 - 6) (omega arith)
+
+  -- The head by its bytes.
+  pub head-wrong : length line / 2 ≢ byteAt line 5 + 6 + 1 → judgeHead (all line) ≡ refused 22
+  unfolding numberAt judgeHead headOf
+  head-wrong ne =
+      let size = bytes-length line 0 (length line / 2) in
+      let t : (ltb (length (all line)) 7 || not (eqb (length (all line)) (7 + getD (all line) 5 0))) ≡ true =
+      or-right (ltb (length (all line)) 7) _ (true-not _ (ne-eqb (length (all line)) (7 + getD (all line) 5 0) (λ z. ne (omega (arith, size, all-at line 5))))) in
+      rw t refl
+
+  -- Its judgement, with the sets and the faulty boards in hand.
+  abbrev pub judgement : ℕ → Outcome
+  judgement top =
+      andThen (planning (byteAt line 0) (byteAt line 5) (bytesFrom line 6 (byteAt line 5)) (lineSettings line))
+      (andThen (cond (leb (byteAt line 1) (byteAt line 4)) (refused 18) (taken []))
+      (cond (within (byteAt line (byteAt line 5 + 6)) (boards top) && tolerated (bytesFrom line 6 (byteAt line 5)) (byteAt line (byteAt line 5 + 6))) (taken []) (refused 23)))
+
+  -- Boards past the seventh matter only to a plan that is refused.
+  seven : judgement (byteAt line 0) ≡ judgement (min (byteAt line 0) 7)
+  seven =
+      let n = byteAt line 0 in
+      let first = planning n (byteAt line 5) (bytesFrom line 6 (byteAt line 5)) (lineSettings line) in
+      cases (eqb (first .number) 0)
+      (λ x. let few = accepted n (byteAt line 5) (bytesFrom line 6 (byteAt line 5)) (lineSettings line) (eqb-true (first .number) 0 x) .admission .most-boards in
+      ap judgement (let z : n ≡ min n 7 = omega arith in z))
+      (λ x. let no = eqb-false (first .number) 0 x in refused-first first _ no ∙ sym (refused-first first _ no))
+
+  pub head-right : length line / 2 ≡ byteAt line 5 + 6 + 1 → judgeHead (all line) ≡ judgement (min (byteAt line 0) 7)
+  unfolding numberAt judgeHead headOf
+  head-right e =
+      let size = bytes-length line 0 (length line / 2) in
+      let t : (ltb (length (all line)) 7 || not (eqb (length (all line)) (7 + getD (all line) 5 0))) ≡ false =
+      rw (le-ltb (length (all line)) 7 (omega arith), eq-eqb (length (all line)) (7 + getD (all line) 5 0) (omega (arith, all-at line 5))) refl in
+      let six : getD (all line) (6 + byteAt line 5) 0 ≡ byteAt line (byteAt line 5 + 6) =
+      all-at line (6 + byteAt line 5) ∙ ap (byteAt line) (let z : 6 + byteAt line 5 ≡ byteAt line 5 + 6 = omega arith in z) in
+      rw (t, all-at line 0, all-at line 1, all-at line 2, all-at line 3, all-at line 4, all-at line 5, sets-are e, six) seven
+
+  -- What the code has in hand of a head of the right length.
+  pub head-judged : (n v s f : ℕ) (settings : Settings) (sets : List ℕ) → n ≡ byteAt line 0 → settings ≡ lineSettings line → v ≡ byteAt line 4
+      → s ≡ byteAt line 5 → f ≡ byteAt line (s + 6) → sets ≡ bytesFrom line 6 s → length line / 2 ≡ s + 6 + 1
+      → andThen (planning n (length sets) sets settings)
+      (andThen (cond (leb (settings .span) v) (refused 18) (taken [])) (cond (within f (boards (min n 7)) && tolerated sets f) (taken []) (refused 23))) ≡ judgeHead (all line)
+  head-judged n v s f settings sets en em ev es ef esets e =
+      let sets′ = esets ∙ ap (bytesFrom line 6) es in
+      let f′ = ef ∙ ap (λ x. byteAt line (x + 6)) es in
+      rw (f′, sets′, bytes-length line 6 (byteAt line 5), en, em, ev) (sym (head-right (e ∙ ap (λ x. x + 6 + 1) es)))
+
+  -- The part of the slots that holds the sets.
+  pub slots-part : (k : ℕ) (sets : List ℕ) → sets ≡ slots k → take (k - 0) sets ≡ bytesFrom line 6 k
+  slots-part k sets e =
+      ap₂ take (let z : k - 0 ≡ k = omega arith in z) e ∙ take-at (bytesFrom line 6 k) (replicate (255 - k) 0) k (bytes-length line 6 k)
+
+  -- The head as the code makes it.
+  pub head-made : (n v s f : ℕ) (settings : Settings) (sets : List ℕ) (p : Plan) → n ≡ byteAt line 0 → settings ≡ lineSettings line
+      → v ≡ byteAt line 4 → s ≡ byteAt line 5 → f ≡ byteAt line (s + 6) → sets ≡ bytesFrom line 6 s → p ≡ planned n sets settings
+      → record { plan = p; faulty = f; word = v } ≡ headFrom line
+  unfolding headFrom
+  head-made n v s f settings sets p en em ev es ef esets ep = rw (ep, ef, esets, es, en, em, ev) refl
+
+  -- The head by its bytes is the head by the line's digits.
+  pub head-parts : length line / 2 ≡ byteAt line 5 + 6 + 1
+      → headFrom line ≡ record { plan = headPlan (headOf (all line)); faulty = headOf (all line) .faulty; word = headOf (all line) .word }
+  unfolding numberAt headFrom headPlan headOf
+  head-parts e =
+      let six : getD (all line) (6 + byteAt line 5) 0 ≡ byteAt line (byteAt line 5 + 6) =
+      all-at line (6 + byteAt line 5) ∙ ap (byteAt line) (let z : 6 + byteAt line 5 ≡ byteAt line 5 + 6 = omega arith in z) in
+      rw (all-at line 0, all-at line 1, all-at line 2, all-at line 3, all-at line 4, all-at line 5, sets-are e, six) refl
+
+  -- A head that is accepted has its length, and a plan that is accepted.
+  pub head-sized : judgeHead (all line) .number ≡ 0 → length line / 2 ≡ byteAt line 5 + 6 + 1
+  head-sized e =
+      cases (eqb (length line / 2) (byteAt line 5 + 6 + 1))
+      (λ x. eqb-true (length line / 2) (byteAt line 5 + 6 + 1) x)
+      (λ x. absurd (let z : 22 ≡ 0 = ap (λ o. o .number) (sym (head-wrong (eqb-false (length line / 2) (byteAt line 5 + 6 + 1) x))) ∙ e in omega arith))
+
+  pub head-accepted : judgeHead (all line) .number ≡ 0 → judged (headFrom line .plan) .number ≡ 0
+  unfolding headFrom
+  head-accepted e =
+      let sets = bytesFrom line 6 (byteAt line 5) in
+      let first = planning (byteAt line 0) (byteAt line 5) sets (lineSettings line) in
+      let (ok, _) = both-taken first _ (ap (λ o. o .number) (sym (head-right (head-sized e))) ∙ e) in
+      let good : planning (byteAt line 0) (length sets) sets (lineSettings line) .number ≡ 0 =
+      ap (λ k. planning (byteAt line 0) k sets (lineSettings line) .number) (bytes-length line 6 (byteAt line 5)) ∙ ok in
+      ap (λ o. o .number) (planned-judged (byteAt line 0) sets (lineSettings line) good) ∙ good
