@@ -2,7 +2,7 @@
 -- Assumes nothing.
 use Prim.Native.Nat.{ℕ, zero, suc, _-_, _≤_, _<_, _^_}
 use mathlib.Core.Path.{_≡_, refl, sym, _∙_, ap, ap₂}
-use mathlib.Core.Logic.{_≢_}
+use mathlib.Core.Logic.{_≢_, _⊎_, inl, ⊎-elim}
 use mathlib.Core.Bool.{true, false, _&&_, cond, and-false}
 use mathlib.Core.List.{List, [], _∷_, map, List·Memᴰ, List·Memᴰ·head, List·Memᴰ·tail}
 use mathlib.Core.Option.{Option, some, none, Option·getD}
@@ -20,6 +20,7 @@ use Rattle.schedule.specs.declared.rounds.Round.{Round}
 use Rattle.refusals.specs.Outcome.{taken, refused}
 use Rattle.refusals.proofs.Outcomes.{taken-first}
 use Rattle.tree.specs.Labels.{Label}
+use Rattle.tree.proofs.Labels.{label-length}
 use Rattle.tree.specs.Places.{cellCount, place}
 use Rattle.tree.specs.Cells.{cellAt, store}
 use Rattle.tree.proofs.Places.{place-injective}
@@ -36,16 +37,21 @@ use Rattle.protocol.proofs.Reached.{due-sender}
 use Rattle.protocol.specs.Records.{withTaken}
 use Rattle.protocol.proofs.Hearing.{isGiven, accepts, marks, content, heardCells, marks-at, marks-below, heard, heard-open, heard-outside, sent-label}
 
--- The children by two boards are different cells, so storing them commutes.
-module _ (p : Plan) (l : p .dealer < p .n) (q q′ a : ℕ) (ne : q ≢ q′) where
-  store-store : (α β : Label) (v w : ℕ) (cells : List ℕ) → IsLabel p l a (q ∷ α) → IsLabel p l a (q′ ∷ β)
+-- The children by two boards, or of two levels, are different cells, so storing them commutes.
+module _ (p : Plan) (l : p .dealer < p .n) (q q′ a a′ : ℕ) (apart : (q ≢ q′) ⊎ (a ≢ a′)) where
+  differ : (α β : Label) → IsLabel p l a (q ∷ α) → IsLabel p l a′ (q′ ∷ β) → (q ∷ α) ≢ (q′ ∷ β)
+  differ α β m m′ e =
+      ⊎-elim (λ ne. ne (let y : q ≡ q′ = cc in y))
+      (λ ne. ne (sym (label-length (p .n) (p .dealer) a (q ∷ α) m) ∙ ap length e ∙ label-length (p .n) (p .dealer) a′ (q′ ∷ β) m′)) apart
+
+  store-store : (α β : Label) (v w : ℕ) (cells : List ℕ) → IsLabel p l a (q ∷ α) → IsLabel p l a′ (q′ ∷ β)
       → store (p .n) (store (p .n) cells (q ∷ α) v) (q′ ∷ β) w ≡ store (p .n) (store (p .n) cells (q′ ∷ β) w) (q ∷ α) v
   unfolding store
   store-store α β v w cells m m′ =
       set-comm cells (place (p .n) (q ∷ α)) (place (p .n) (q′ ∷ β)) v w
-      (λ e. ne (let z = place-injective (p .n) (p .dealer) a a (q ∷ α) (q′ ∷ β) l m m′ e in let y : q ≡ q′ = cc in y))
+      (λ e. differ α β m m′ (place-injective (p .n) (p .dealer) a a′ (q ∷ α) (q′ ∷ β) l m m′ e))
 
-  store-fill : (α : Label) (v : ℕ) (βs : List Label) (ws cells : List ℕ) → IsLabel p l a (q ∷ α) → Children p l q′ a βs
+  store-fill : (α : Label) (v : ℕ) (βs : List Label) (ws cells : List ℕ) → IsLabel p l a (q ∷ α) → Children p l q′ a′ βs
       → fill p q′ βs ws (store (p .n) cells (q ∷ α) v) ≡ store (p .n) (fill p q′ βs ws cells) (q ∷ α) v
   unfolding fill
   store-fill α v [] ws cells m ch = refl
@@ -56,7 +62,7 @@ module _ (p : Plan) (l : p .dealer < p .n) (q q′ a : ℕ) (ne : q ≢ q′) wh
       ap (fill p q′ βs ws) (store-store α β v (value p w) cells m (ch β (List·Memᴰ·head refl)))
       ∙ store-fill α v βs ws (store (p .n) cells (q′ ∷ β) (value p w)) m (λ γ w. ch γ (List·Memᴰ·tail w))
 
-  fill-fill : (αs βs : List Label) (vs ws cells : List ℕ) → Children p l q a αs → Children p l q′ a βs
+  fill-fill : (αs βs : List Label) (vs ws cells : List ℕ) → Children p l q a αs → Children p l q′ a′ βs
       → fill p q αs vs (fill p q′ βs ws cells) ≡ fill p q′ βs ws (fill p q αs vs cells)
   unfolding fill
   fill-fill [] βs vs ws cells ch ch′ = refl
@@ -67,12 +73,13 @@ module _ (p : Plan) (l : p .dealer < p .n) (q q′ a : ℕ) (ne : q ≢ q′) wh
       ap (fill p q αs vs) (sym (store-fill α (value p v) βs ws cells (ch α (List·Memᴰ·head refl)) ch′))
       ∙ fill-fill αs βs vs ws (store (p .n) cells (q ∷ α) (value p v)) (λ γ w. ch γ (List·Memᴰ·tail w)) ch′
 
--- Frames of two boards may be stored in either order.
-pub fill-commutes : (p : Plan) (l : p .dealer < p .n) (i : ℕ) (k : Round) → 1 ≤ k .0 → (q q′ : ℕ) (vs ws cells : List ℕ) → q ≢ q′ → q < p .n → q′ < p .n
-    → fill p q (sent p q i k) vs (fill p q′ (sent p q′ i k) ws cells) ≡ fill p q′ (sent p q′ i k) ws (fill p q (sent p q i k) vs cells)
-fill-commutes p l i k low q q′ vs ws cells ne lq lq′ =
-    fill-fill p l q q′ (k .0) ne (sent p q i k) (sent p q′ i k) vs ws cells
-    (λ α w. sent-label p l i k low q α lq w) (λ β w. sent-label p l i k low q′ β lq′ w)
+-- Frames of two boards, or of two rounds, may be stored in either order.
+pub fill-commutes : (p : Plan) (l : p .dealer < p .n) (i : ℕ) (k k′ : Round) → 1 ≤ k .0 → 1 ≤ k′ .0 → (q q′ : ℕ) (vs ws cells : List ℕ)
+    → (q ≢ q′) ⊎ (k .0 ≢ k′ .0) → q < p .n → q′ < p .n
+    → fill p q (sent p q i k) vs (fill p q′ (sent p q′ i k′) ws cells) ≡ fill p q′ (sent p q′ i k′) ws (fill p q (sent p q i k) vs cells)
+fill-commutes p l i k k′ low low′ q q′ vs ws cells apart lq lq′ =
+    fill-fill p l q q′ (k .0) (k′ .0) apart (sent p q i k) (sent p q′ i k′) vs ws cells
+    (λ α w. sent-label p l i k low q α lq w) (λ β w. sent-label p l i k′ low′ q′ β lq′ w)
 
 -- Sets of boards below k with the same members are equal.
 pub same-members : (k a b : ℕ) → a < 2 ^ k → b < 2 ^ k → ((i : ℕ) → i < k → member i a ≡ member i b) → a ≡ b
@@ -86,8 +93,8 @@ same-members k a b ha hb h =
 module _ (r : Record) (msg msg′ : ℕ → Option (List ℕ)) where
   -- Of the boards below j the same frames are taken, and they count as the same.
   record Alike (j : ℕ) : Type 0 where
-    same-accepts : (q : ℕ) → q < j → accepts r msg q ≡ accepts r msg′ q
-    same-content : (q : ℕ) → q < j → accepts r msg q ≡ true → content r msg q ≡ content r msg′ q
+    same-accepts : (q : ℕ) → q < j → accepts (r .plan) (r .board) (r .round) (r .detected) msg q ≡ accepts (r .plan) (r .board) (r .round) (r .detected) msg′ q
+    same-content : (q : ℕ) → q < j → accepts (r .plan) (r .board) (r .round) (r .detected) msg q ≡ true → content (r .plan) (r .board) (r .round) (r .detected) msg q ≡ content (r .plan) (r .board) (r .round) (r .detected) msg′ q
 
   alike-low : (j : ℕ) → Alike (suc j) → Alike j
   alike-low j h = record {
@@ -95,28 +102,28 @@ module _ (r : Record) (msg msg′ : ℕ → Option (List ℕ)) where
     same-content = λ q l. h .same-content q (omega arith);
   }
 
-  marks-same : (j : ℕ) → Alike j → marks r msg j ≡ marks r msg′ j
+  marks-same : (j : ℕ) → Alike j → marks (r .plan) (r .board) (r .round) (r .detected) msg j ≡ marks (r .plan) (r .board) (r .round) (r .detected) msg′ j
   unfolding marks
   marks-same zero h = refl
   marks-same (suc j) h = ap₂ (λ b s. cond b (insert j s) s) (h .same-accepts j (omega arith)) (marks-same j (alike-low j h))
 
-  cells-same : (cells : List ℕ) (j : ℕ) → Alike j → heardCells r msg cells j ≡ heardCells r msg′ cells j
+  cells-same : (cells : List ℕ) (j : ℕ) → Alike j → heardCells (r .plan) (r .board) (r .round) (r .detected) msg cells j ≡ heardCells (r .plan) (r .board) (r .round) (r .detected) msg′ cells j
   unfolding heardCells
   cells-same cells zero h = refl
   cells-same cells (suc j) h =
       let ih = cells-same cells j (alike-low j h) in
-      cases (accepts r msg j)
+      cases (accepts (r .plan) (r .board) (r .round) (r .detected) msg j)
       (λ e. rw (e, sym (h .same-accepts j (omega arith)) ∙ e) (ap₂ (fill (r .plan) j (sent (r .plan) j (r .board) (r .round))) (h .same-content j (omega arith) e) ih))
       (λ e. rw (e, sym (h .same-accepts j (omega arith)) ∙ e) ih)
 
 -- No frame is taken.
 module _ (r : Record) (msg : ℕ → Option (List ℕ)) where
-  marks-none : (j : ℕ) → ((q : ℕ) → q < j → accepts r msg q ≡ false) → marks r msg j ≡ 0
+  marks-none : (j : ℕ) → ((q : ℕ) → q < j → accepts (r .plan) (r .board) (r .round) (r .detected) msg q ≡ false) → marks (r .plan) (r .board) (r .round) (r .detected) msg j ≡ 0
   unfolding marks
   marks-none zero h = refl
   marks-none (suc j) h = rw (h j (omega arith)) (marks-none j (λ q l. h q (omega arith)))
 
-  cells-none : (cells : List ℕ) (j : ℕ) → ((q : ℕ) → q < j → accepts r msg q ≡ false) → heardCells r msg cells j ≡ cells
+  cells-none : (cells : List ℕ) (j : ℕ) → ((q : ℕ) → q < j → accepts (r .plan) (r .board) (r .round) (r .detected) msg q ≡ false) → heardCells (r .plan) (r .board) (r .round) (r .detected) msg cells j ≡ cells
   unfolding heardCells
   cells-none cells zero h = refl
   cells-none cells (suc j) h = rw (h j (omega arith)) (cells-none cells j (λ q l. h q (omega arith)))
@@ -135,19 +142,19 @@ update-other msg q f x ne = rw (ne-eqb x q ne)
 
 -- One frame more, of board q.
 module _ (r : Record) (msg : ℕ → Option (List ℕ)) (q : ℕ) (f : List ℕ) where
-  accepts-here : due (r .plan) q (r .board) (r .round) ≡ true → accepts r (update msg q f) q ≡ true
+  accepts-here : due (r .plan) q (r .board) (r .round) ≡ true → accepts (r .plan) (r .board) (r .round) (r .detected) (update msg q f) q ≡ true
   unfolding accepts isGiven
   accepts-here d = and-true (due (r .plan) q (r .board) (r .round)) (isGiven (update msg q f q)) d (ap isGiven (update-here msg q f))
 
-  accepts-other : (x : ℕ) → x ≢ q → accepts r (update msg q f) x ≡ accepts r msg x
+  accepts-other : (x : ℕ) → x ≢ q → accepts (r .plan) (r .board) (r .round) (r .detected) (update msg q f) x ≡ accepts (r .plan) (r .board) (r .round) (r .detected) msg x
   unfolding accepts
   accepts-other x ne = ap (λ o. due (r .plan) x (r .board) (r .round) && isGiven o) (update-other msg q f x ne)
 
-  content-here : content r (update msg q f) q ≡ counted (r .detected) q (sent (r .plan) q (r .board) (r .round)) f
+  content-here : content (r .plan) (r .board) (r .round) (r .detected) (update msg q f) q ≡ counted (r .detected) q (sent (r .plan) q (r .board) (r .round)) f
   unfolding content
   content-here = ap (λ o. counted (r .detected) q (sent (r .plan) q (r .board) (r .round)) (Option·getD o [])) (update-here msg q f)
 
-  content-other : (x : ℕ) → x ≢ q → content r (update msg q f) x ≡ content r msg x
+  content-other : (x : ℕ) → x ≢ q → content (r .plan) (r .board) (r .round) (r .detected) (update msg q f) x ≡ content (r .plan) (r .board) (r .round) (r .detected) msg x
   unfolding content
   content-other x ne = ap (λ o. counted (r .detected) x (sent (r .plan) x (r .board) (r .round)) (Option·getD o [])) (update-other msg q f x ne)
 
@@ -159,13 +166,13 @@ module _ (r : Record) (msg : ℕ → Option (List ℕ)) (q : ℕ) (f : List ℕ)
 
   module _ (g : Good r) (undecided : r .decided ≡ false) (cells : List ℕ) (room : cellCount (r .plan .n) ≤ length cells)
       (lq : q < r .plan .n) (d : due (r .plan) q (r .board) (r .round) ≡ true) (new : msg q ≡ none) where
-    accepts-not : accepts r msg q ≡ false
+    accepts-not : accepts (r .plan) (r .board) (r .round) (r .detected) msg q ≡ false
     unfolding accepts isGiven
     accepts-not = rw (new, d)
 
     cells-more : (j : ℕ) → q < j → j ≤ r .plan .n
-        → heardCells r (update msg q f) cells j
-        ≡ fill (r .plan) q (sent (r .plan) q (r .board) (r .round)) (counted (r .detected) q (sent (r .plan) q (r .board) (r .round)) f) (heardCells r msg cells j)
+        → heardCells (r .plan) (r .board) (r .round) (r .detected) (update msg q f) cells j
+        ≡ fill (r .plan) q (sent (r .plan) q (r .board) (r .round)) (counted (r .detected) q (sent (r .plan) q (r .board) (r .round)) f) (heardCells (r .plan) (r .board) (r .round) (r .detected) msg cells j)
     unfolding heardCells
     cells-more zero lt h = absurd (omega arith)
     cells-more (suc j) lt h =
@@ -176,21 +183,21 @@ module _ (r : Record) (msg : ℕ → Option (List ℕ)) (q : ℕ) (f : List ℕ)
         (ap₂ (fill p q αs) content-here (cells-same r (update msg q f) msg cells q alike-before)))
         (λ e. let ne : j ≢ q = eqb-false j q e in
         let ih = cells-more j (omega arith) (omega arith) in
-        cases (accepts r msg j)
+        cases (accepts (r .plan) (r .board) (r .round) (r .detected) msg j)
         (λ t. rw (t, accepts-other j ne ∙ t)
         (ap₂ (fill p j (sent p j (r .board) (r .round))) (content-other j ne) ih
-        ∙ fill-commutes p (good-dealer r g) (r .board) (r .round) (g .position .round-low) j q (content r msg j) (counted (r .detected) q αs f) (heardCells r msg cells j) ne h lq))
+        ∙ fill-commutes p (good-dealer r g) (r .board) (r .round) (r .round) (g .position .round-low) (g .position .round-low) j q (content (r .plan) (r .board) (r .round) (r .detected) msg j) (counted (r .detected) q αs f) (heardCells (r .plan) (r .board) (r .round) (r .detected) msg cells j) (inl ne) h lq))
         (λ t. rw (t, accepts-other j ne ∙ t) ih))
 
-    marks-more : marks r (update msg q f) (r .plan .n) ≡ insert q (marks r msg (r .plan .n))
+    marks-more : marks (r .plan) (r .board) (r .round) (r .detected) (update msg q f) (r .plan .n) ≡ insert q (marks (r .plan) (r .board) (r .round) (r .detected) msg (r .plan .n))
     marks-more =
         let n = r .plan .n in
-        same-members n (marks r (update msg q f) n) (insert q (marks r msg n))
+        same-members n (marks (r .plan) (r .board) (r .round) (r .detected) (update msg q f) n) (insert q (marks (r .plan) (r .board) (r .round) (r .detected) msg n))
         (marks-below r g undecided (update msg q f) cells room n (omega arith))
-        (insert-below n q (marks r msg n) lq (marks-below r g undecided msg cells room n (omega arith)))
-        (λ x l. marks-at r (update msg q f) n x l ∙ cases (eqb x q)
-        (λ e. rw (eqb-true x q e) (accepts-here d ∙ sym (member-insert q q (marks r msg n) ∙ rw (eq-eqb q q refl))))
-        (λ e. accepts-other x (eqb-false x q e) ∙ sym (member-insert x q (marks r msg n) ∙ rw e (marks-at r msg n x l))))
+        (insert-below n q (marks (r .plan) (r .board) (r .round) (r .detected) msg n) lq (marks-below r g undecided msg cells room n (omega arith)))
+        (λ x l. marks-at (r .plan) (r .board) (r .round) (r .detected) (update msg q f) n x l ∙ cases (eqb x q)
+        (λ e. rw (eqb-true x q e) (accepts-here d ∙ sym (member-insert q q (marks (r .plan) (r .board) (r .round) (r .detected) msg n) ∙ rw (eq-eqb q q refl))))
+        (λ e. accepts-other x (eqb-false x q e) ∙ sym (member-insert x q (marks (r .plan) (r .board) (r .round) (r .detected) msg n) ∙ rw e (marks-at (r .plan) (r .board) (r .round) (r .detected) msg n x l))))
 
 not-given : (o : Option (List ℕ)) → isGiven o ≡ false → o ≡ none
 unfolding isGiven
@@ -221,13 +228,13 @@ module _ (r : Record) (g : Good r) (undecided : r .decided ≡ false) (cells : L
 
   -- How the next frame is judged.
   pub heard-judged : (msg : ℕ → Option (List ℕ)) (q : ℕ)
-      → judgeReceiving (heardAll msg) q ≡ cond (due (r .plan) q (r .board) (r .round)) (cond (accepts r msg q) (refused 15) (taken [])) (refused 14)
+      → judgeReceiving (heardAll msg) q ≡ cond (due (r .plan) q (r .board) (r .round)) (cond (accepts (r .plan) (r .board) (r .round) (r .detected) msg q) (refused 15) (taken [])) (refused 14)
   unfolding judgeReceiving
   heard-judged msg q =
       taken-first (judgeOpen (heardAll msg)) _
       (ap (λ o. o .number) (open-taken (heardAll msg) (heard-open r g undecided msg cells room (r .plan .n) (omega arith))))
       ∙ cases (due (r .plan) q (r .board) (r .round))
-      (λ d. ap (λ b. cond (due (r .plan) q (r .board) (r .round)) (cond b (refused 15) (taken [])) (refused 14)) (marks-at r msg (r .plan .n) q (due-sender (r .plan) q (r .board) (r .round) d)))
+      (λ d. ap (λ b. cond (due (r .plan) q (r .board) (r .round)) (cond b (refused 15) (taken [])) (refused 14)) (marks-at (r .plan) (r .board) (r .round) (r .detected) msg (r .plan .n) q (due-sender (r .plan) q (r .board) (r .round) d)))
       (λ d. rw d)
 
   -- A frame that is taken was due, and the first of its sender.
@@ -244,8 +251,8 @@ module _ (r : Record) (g : Good r) (undecided : r .decided ≡ false) (cells : L
       (λ d. absurd (let z : 14 ≡ 0 = rw d at j in omega arith))
 
   -- Boards told the same, as far as they take it, hold the same.
-  pub heard-same : (msg msg′ : ℕ → Option (List ℕ)) → ((q : ℕ) → q < r .plan .n → accepts r msg q ≡ accepts r msg′ q)
-      → ((q : ℕ) → q < r .plan .n → accepts r msg q ≡ true → content r msg q ≡ content r msg′ q) → heardAll msg ≡ heardAll msg′
+  pub heard-same : (msg msg′ : ℕ → Option (List ℕ)) → ((q : ℕ) → q < r .plan .n → accepts (r .plan) (r .board) (r .round) (r .detected) msg q ≡ accepts (r .plan) (r .board) (r .round) (r .detected) msg′ q)
+      → ((q : ℕ) → q < r .plan .n → accepts (r .plan) (r .board) (r .round) (r .detected) msg q ≡ true → content (r .plan) (r .board) (r .round) (r .detected) msg q ≡ content (r .plan) (r .board) (r .round) (r .detected) msg′ q) → heardAll msg ≡ heardAll msg′
   heard-same msg msg′ a c =
       let h : Alike r msg msg′ (r .plan .n) = record { same-accepts = a; same-content = c } in
       ap₂ (holding r) (marks-same r msg msg′ (r .plan .n) h) (cells-same r msg msg′ cells (r .plan .n) h)
@@ -254,12 +261,12 @@ module _ (r : Record) (g : Good r) (undecided : r .decided ≡ false) (cells : L
   pub heard-none : (msg : ℕ → Option (List ℕ)) → ((q : ℕ) → q < r .plan .n → msg q ≡ none) → heardAll msg ≡ boardWith (withTaken r 0) cells
   unfolding accepts isGiven
   heard-none msg h =
-      let a : (q : ℕ) → q < r .plan .n → accepts r msg q ≡ false = λ q l. rw (h q l) (and-false (due (r .plan) q (r .board) (r .round))) in
+      let a : (q : ℕ) → q < r .plan .n → accepts (r .plan) (r .board) (r .round) (r .detected) msg q ≡ false = λ q l. rw (h q l) (and-false (due (r .plan) q (r .board) (r .round))) in
       ap₂ (holding r) (marks-none r msg (r .plan .n) a) (cells-none r msg cells (r .plan .n) a)
 
   -- A board sends cells of the level before, which hearing leaves alone.
   sent-kept : (msg : ℕ → Option (List ℕ)) (j : ℕ) (α : Label) → j ≤ r .plan .n → List·Memᴰ α (sent (r .plan) (r .board) (r .board) (r .round))
-      → cellAt (r .plan .n) (heardCells r msg cells j) α ≡ cellAt (r .plan .n) cells α
+      → cellAt (r .plan .n) (heardCells (r .plan) (r .board) (r .round) (r .detected) msg cells j) α ≡ cellAt (r .plan .n) cells α
   sent-kept msg j α h m =
       let p = r .plan in
       let i = r .board in

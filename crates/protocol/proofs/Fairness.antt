@@ -78,8 +78,8 @@ module _ (s : Setting) (calls : List Call) (sound : Sound s) (fair : Fair s call
   -- The board with the frames that it has taken in the step.
   abbrev hearing : ℕ → ℕ → (ℕ → Option (List ℕ)) → Board
   hearing j i msg = record {
-    rec = withTaken (recAt j i) (marks (recAt j i) msg (plan .n));
-    cells = heardCells (recAt j i) msg (base j i .cells) (plan .n);
+    rec = withTaken (recAt j i) (marks ((recAt j i) .plan) ((recAt j i) .board) ((recAt j i) .round) ((recAt j i) .detected) msg (plan .n));
+    cells = heardCells ((recAt j i) .plan) ((recAt j i) .board) ((recAt j i) .round) ((recAt j i) .detected) msg (base j i .cells) (plan .n);
   }
 
   -- Where board i stands after the calls `before`.

@@ -15,11 +15,11 @@ use Rattle.protocol.specs.declared.records.Record.{Record}
 use Rattle.protocol.specs.Records.{runEnded}
 use Rattle.protocol.specs.Rounds.{boardWith, Board, nextRound, convert, close}
 use Rattle.protocol.specs.Calls.{freshRecord, frameOf}
-use Rattle.protocol.specs.Session.{Adversary, Setting, at}
+use Rattle.protocol.specs.Session.{Adversary, Setting, at, takeAll}
 use Rattle.protocol.specs.Lists.{keeper, Sound}
 use Rattle.protocol.proofs.Judgement.{Good, Open, open-taken}
 use Rattle.protocol.proofs.Reached.{fresh-good, close-good, close-plan, close-length, closing-taken}
-use Rattle.protocol.proofs.Hearing.{hear, heard-open, heard-length, hear-shape}
+use Rattle.protocol.proofs.Hearing.{heard-open, heard-length, hear-shape}
 use Rattle.protocol.proofs.Synchronous.{told, canon, standing, keeper-facts, begun-shape, at-start, at-next}
 use Rattle.protocol.proofs.AnyOrder.{part-frame}
 
@@ -45,7 +45,7 @@ unfolding close nextRound convert runEnded
 close-board b = cases (ltb (b .rec .round .0) (rounds (b .rec .plan) .0)) (λ e. rw e) (λ e. rw e)
 
 module _ (s : Setting) (a : Adversary) (sound : Sound s) where
-  pub part-heard : (j i q : ℕ) → keeper s i ≡ true → j < steps (s .plan) → q ≤ s .plan .n → MidStep s a j i (hear (told s a i j) (at s a j i) q)
+  pub part-heard : (j i q : ℕ) → keeper s i ≡ true → j < steps (s .plan) → q ≤ s .plan .n → MidStep s a j i (takeAll (told s a i j) (at s a j i) q)
   part-heard j i q k l h =
       let st = standing s a sound j i k l in
       let r = canon s a sound i j (at s a j i .rec .detected) in
@@ -67,10 +67,10 @@ module _ (s : Setting) (a : Adversary) (sound : Sound s) where
       board-of : Record → List ℕ → Board
       board-of x c = boardWith x c
 
-  at-close : (j i : ℕ) → keeper s i ≡ true → suc j ≤ steps (s .plan) → at s a (suc j) i ≡ close (hear (told s a i j) (at s a j i) (s .plan .n))
+  at-close : (j i : ℕ) → keeper s i ≡ true → suc j ≤ steps (s .plan) → at s a (suc j) i ≡ close (takeAll (told s a i j) (at s a j i) (s .plan .n))
   at-close j i k l =
       let h = part-heard j i (s .plan .n) k l (omega arith) in
-      let b = hear (told s a i j) (at s a j i) (s .plan .n) in
+      let b = takeAll (told s a i j) (at s a j i) (s .plan .n) in
       at-next s a i j (keeper-facts s a sound i k .0) ∙ closing-taken b (ap (λ o. o .number) (open-taken b (h .opened)))
 
   -- Beginning, hearing and closing keep the number of cells.
@@ -91,6 +91,6 @@ module _ (s : Setting) (a : Adversary) (sound : Sound s) where
       (unfold freshRecord in record { plan = refl; board = refl; good = fresh-good (s .plan) i (sound .accepted) below ne })
   stays (suc j) i k l =
       let h = part-heard j i (s .plan .n) k (omega arith) (omega arith) in
-      let b = hear (told s a i j) (at s a j i) (s .plan .n) in
+      let b = takeAll (told s a i j) (at s a j i) (s .plan .n) in
       subst (Stays s i) (sym (at-close j i k l))
       (record { plan = close-plan b ∙ h .plan; board = close-board b ∙ h .board; good = close-good b (h .opened .good) })

@@ -135,11 +135,15 @@ close-good b g =
     (λ e. rw e (next-good b (gather b) g d (ltb-true (b .rec .round .0) (rounds (b .rec .plan) .0) e)))
     (λ e. rw e (convert-good b (gather b) g d))
 
--- The label has no value in board b: it is no node, or its round is yet to come, or its sender's frame is, or the board has decided.
+-- Board b awaits the values of level k from board q: the level's round is yet to come, or the sender's frame is.
+abbrev pub Awaits : Board → ℕ → ℕ → Type 0
+Awaits b k q = (b .rec .round .0 < k) ⊎ ((b .rec .round .0 ≡ k) × (member q (b .rec .taken) ≡ false))
+
+-- The label has no value in board b: it is no node, or the board awaits it, or the board has decided.
 abbrev pub NoValue : Board → ℕ → Label → Type 0
 NoValue b k α =
     (List·Memᴰ α (nodes (b .rec .plan) (b .rec .board) k) → ⊥)
-    ⊎ (((b .rec .decided ≡ false) × ((b .rec .round .0 < k) ⊎ ((b .rec .round .0 ≡ k) × (member (last α) (b .rec .taken) ≡ false))))
+    ⊎ (((b .rec .decided ≡ false) × Awaits b k (last α))
     ⊎ ((b .rec .decided ≡ true) × (1 < k)))
 
 -- 01: "A place with no value yet, or no node, holds FF".

@@ -24,14 +24,14 @@ use Rattle.protocol.specs.Nodes.{read, inner}
 use Rattle.protocol.specs.Detection.{Scan, byCell, byResolving, resolve, detectLevels}
 use Rattle.protocol.specs.Records.{runEnded}
 use Rattle.protocol.specs.Rounds.{Board, gather, nextRound, convert}
-use Rattle.protocol.specs.Session.{Adversary, Setting, at}
+use Rattle.protocol.specs.Session.{Adversary, Setting, at, takeAll}
 use Rattle.protocol.specs.Lists.{keeper, Sound}
 use Rattle.protocol.proofs.Nodes.{node-label, node-has}
 use Rattle.protocol.proofs.Fill.{IsLabel}
 use Rattle.protocol.proofs.Instance.{inst, tol, tol-mono, resolve-inst}
 use Rattle.protocol.proofs.Gathering.{scan-grow, scan-cell, scan-spared, SparedBy}
 use Rattle.protocol.proofs.Converting.{levels-spared, convert-grow}
-use Rattle.protocol.proofs.Hearing.{hear, silenced}
+use Rattle.protocol.proofs.Hearing.{silenced}
 use Rattle.protocol.proofs.Synchronous.{told, keeper-facts, standing, position, number, next-position}
 use Rattle.protocol.proofs.Delivery.{is-due, st, rec, rec-good, scanned, scanned-other}
 use Rattle.protocol.proofs.Soundness.{open-round, inv, scan-is, within-run, run-ends, room, dealer-below, lists-within}
@@ -45,7 +45,7 @@ module _ (s : Setting) (a : Adversary) (sound : Sound s) where
 
   -- The list and the cells of board i in step j, after rule FD1.
   abbrev pub scan : ℕ → ℕ → Scan
-  scan j i = gather (hear (told s a i j) (at s a j i) (plan .n))
+  scan j i = gather (takeAll (told s a i j) (at s a j i) (plan .n))
 
   module _ (j i : ℕ) (ki : keeper s i ≡ true) (l : j < steps plan) where
     is-scanned : scan j i ≡ scanned s a sound j i ki l

@@ -31,7 +31,7 @@ use Rattle.protocol.proofs.Converting.{Minds, levels-sound}
 use Rattle.protocol.specs.Detection.{Scan, byResolving, resolveRoot, detectLevels}
 use Rattle.protocol.specs.Records.{runEnded}
 use Rattle.protocol.specs.Rounds.{rootOnly, nextRound, convert, Board, gather}
-use Rattle.protocol.specs.Session.{Adversary, Setting, at}
+use Rattle.protocol.specs.Session.{Adversary, Setting, at, takeAll}
 use Rattle.protocol.specs.Calls.{freshRecord}
 use Rattle.schedule.proofs.Levels.{rounds-pos}
 use Rattle.protocol.specs.Lists.{keeper, Sound}
@@ -42,7 +42,7 @@ use Rattle.protocol.proofs.Bounds.{read-small, root-small}
 use Rattle.protocol.proofs.Instance.{inst, mem-node, node-mem, node-level, node-size, resolve-inst}
 use Rattle.protocol.proofs.Listing.{listOf}
 use Rattle.protocol.proofs.Gathering.{scan-cell, scan-sound}
-use Rattle.protocol.proofs.Hearing.{hear, stored, filled, filled-length, delivered, value-same}
+use Rattle.protocol.proofs.Hearing.{stored, filled, filled-length, delivered, value-same}
 use Rattle.protocol.proofs.Synchronous.{at-start, begun-shape, told, keeper-facts, standing, position, number, heard-all, ready, after-step, close-next, close-last, next-run, more-runs}
 use Rattle.protocol.proofs.Delivery.{good, healthy, healthy-keeper, told-word, st, rec, rec-good, stored-cells, scanned, stored-healthy, scanned-other}
 
@@ -199,7 +199,7 @@ module _ (s : Setting) (a : Adversary) (sound : Sound s) where
 
     -- The cells of all boards after rule FD1.
     abbrev pub scan-of : ℕ → Scan
-    scan-of i = gather (hear (told s a i j) (at s a j i) (plan .n))
+    scan-of i = gather (takeAll (told s a i j) (at s a j i) (plan .n))
 
     pub scan-is : (i : ℕ) (ki : keeper s i ≡ true) → scan-of i ≡ scanned s a sound j i ki l
     unfolding gather filled stored

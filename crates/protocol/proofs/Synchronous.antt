@@ -26,13 +26,13 @@ use Rattle.protocol.specs.declared.records.Record.{Record}
 use Rattle.protocol.specs.Records.{runEnded, withTaken}
 use Rattle.protocol.specs.Rounds.{boardWith, Board, gather, nextRound, convert, close}
 use Rattle.protocol.specs.Calls.{judgeBoard, judgeBeginning, freshRecord, beginning, closing}
-use Rattle.protocol.specs.Session.{table, Adversary, Setting, Boards, nobody, boardAt, begun, hears, handIn, hearAll, session, at}
+use Rattle.protocol.specs.Session.{table, Adversary, Setting, Boards, nobody, boardAt, begun, hears, hearAll, session, at, takeAll}
 use Rattle.protocol.specs.Lists.{keeper, Sound}
 use Rattle.protocol.proofs.Judgement.{Good, Open, open-taken, board-taken, cells-taken, taken-is}
 use Rattle.protocol.proofs.Reached.{closing-taken, fresh-good, close-good, close-length}
 use Rattle.refusals.proofs.Outcomes.{taken-first}
 use Rattle.schedule.proofs.Levels.{rounds-pos, runs-pos}
-use Rattle.protocol.proofs.Hearing.{hear, marks, heardCells, heard-open, hear-shape}
+use Rattle.protocol.proofs.Hearing.{marks, heardCells, heard-open, hear-shape}
 use Rattle.protocol.specs.Detection.{detectLevels}
 
 pub table-at : {A : Type 0} (f : ℕ → A) (k i c : ℕ) (x : A) → c < k → getD (table f i k) c x ≡ f (i + c)
@@ -46,16 +46,15 @@ module _ (s : Setting) (a : Adversary) where
   unfolding at session boardAt
   at-start i l = table-at (begun s) (s .plan .n) 0 i nobody l ∙ ap (begun s) (let z : 0 + i ≡ i = omega arith in z)
 
-  pub hear-all : (w : Boards) (i j k : ℕ) → hearAll s a w i j k ≡ hear (hears s a w i j) (boardAt w i) k
-  unfolding hearAll hear
-  hear-all w i j zero = refl
-  hear-all w i j (suc k) = ap (handIn k (hears s a w i j k)) (hear-all w i j k)
+  pub hear-all : (w : Boards) (i j k : ℕ) → hearAll s a w i j k ≡ takeAll (hears s a w i j) (boardAt w i) k
+  unfolding hearAll
+  hear-all w i j k = refl
 
   -- What board i is told in step j.
   abbrev pub told : ℕ → ℕ → ℕ → Option (List ℕ)
   told i j = hears s a (session s a j) i j
 
-  pub at-next : (i j : ℕ) → i < s .plan .n → at s a (suc j) i ≡ closing (hear (told i j) (at s a j i) (s .plan .n)) .board
+  pub at-next : (i j : ℕ) → i < s .plan .n → at s a (suc j) i ≡ closing (takeAll (told i j) (at s a j i) (s .plan .n)) .board
   unfolding at session boardAt
   at-next i j l =
       let f : ℕ → Board = λ i. closing (hearAll s a (session s a j) i j (s .plan .n)) .board in
@@ -192,12 +191,12 @@ module _ (s : Setting) (a : Adversary) (sound : Sound s) where
 
     -- The record with its marks, and the cells, as closing begins.
     abbrev pub ready : Board
-    ready = boardWith (withTaken r (marks r (told s a i j) (plan .n))) (heardCells r (told s a i j) cells (plan .n))
+    ready = boardWith (withTaken r (marks (r .plan) (r .board) (r .round) (r .detected) (told s a i j) (plan .n))) (heardCells (r .plan) (r .board) (r .round) (r .detected) (told s a i j) cells (plan .n))
 
     pub ready-open : Open ready
     ready-open = heard-open r good-r refl (told s a i j) cells (st .room) (plan .n) (omega arith)
 
-    pub heard-all : hear (told s a i j) (at s a j i) (plan .n) ≡ ready
+    pub heard-all : takeAll (told s a i j) (at s a j i) (plan .n) ≡ ready
     heard-all =
         hear-shape r good-r refl (told s a i j) cells (st .room) (at s a j i)
         (ap (λ x. board-of x cells) (st .shape)) (plan .n) (omega arith)

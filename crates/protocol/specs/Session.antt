@@ -49,10 +49,14 @@ unfoldable pub handIn : ℕ → Option (List ℕ) → Board → Board
 handIn q none b = b
 handIn q (some vs) b = taking b q vs .board
 
+-- A board with what the boards below k tell it.
+unfoldable pub takeAll : (ℕ → Option (List ℕ)) → Board → ℕ → Board
+takeAll msg b zero = b
+takeAll msg b (suc q) = handIn q (msg q) (takeAll msg b q)
+
 -- Board i with what it hears from the boards below k.
 unfoldable pub hearAll : Setting → Adversary → Boards → ℕ → ℕ → ℕ → Board
-hearAll s a w i j zero = boardAt w i
-hearAll s a w i j (suc k) = handIn k (hears s a w i j k) (hearAll s a w i j k)
+hearAll s a w i j k = takeAll (hears s a w i j) (boardAt w i) k
 
 -- All boards after j steps. Past the last step closing is refused and nothing changes.
 unfoldable pub session : Setting → Adversary → ℕ → Boards

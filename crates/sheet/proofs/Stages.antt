@@ -24,12 +24,11 @@ use Rattle.protocol.specs.Limits.{cellsNeeded, frameRoom}
 use Rattle.protocol.specs.Nodes.{due}
 use Rattle.protocol.specs.Rounds.{boardWith, Board}
 use Rattle.protocol.specs.Calls.{isTaken, voidRecord, judgeOpen, judgeSending, dealing, taking, receiving, sending, frameOf, wireOf, beginning}
-use Rattle.protocol.specs.Session.{Adversary, Setting, boardAt, begun, hears, handIn, session, at}
+use Rattle.protocol.specs.Session.{Adversary, Setting, boardAt, begun, hears, handIn, session, at, takeAll}
 use Rattle.protocol.specs.Lists.{keeper, Sound}
 use Rattle.protocol.specs.Sheet.{Frame, headPlan}
 use Rattle.protocol.specs.Sheet as S
 use Rattle.protocol.specs.Playing.{findFrame, decoded, sheetAdversary, part, replacePart, setting, finalCells, finalBoards}
-use Rattle.protocol.proofs.Hearing.{hear}
 use Rattle.protocol.proofs.Synchronous.{at-start, at-next, told, keeper-facts}
 use Rattle.protocol.proofs.PartHeard.{MidStep, part-heard, cells-kept}
 use Rattle.protocol.proofs.Judgement.{Open, open-taken}
@@ -235,7 +234,7 @@ module _ (h : S.Head) (good : GoodHead h) (cells₀ : List ℕ) (room : cellsNee
       rest = framesLeft (headPlan h) (suc j) fs
 
       abbrev heard : ℕ → ℕ → Board
-      heard q i = hear (told s a i j) (at s a j i) q
+      heard q i = takeAll (told s a i j) (at s a j i) q
 
       mid : (q i : ℕ) → q ≤ n → keeper s i ≡ true → MidStep s a j i (heard q i)
       unfolding setting
@@ -246,7 +245,7 @@ module _ (h : S.Head) (good : GoodHead h) (cells₀ : List ℕ) (room : cellsNee
 
       told-faulty : (q i : ℕ) → q < n → keeper s i ≡ true → member q (h .faulty) ≡ true
           → acted (headPlan h) (HearFaulty q) rest [] i (heard q i) ≡ heard (suc q) i
-      unfolding acted hear hears setting sheetAdversary
+      unfolding acted takeAll hears setting sheetAdversary
       told-faulty q i l k e =
           let m = mid q i (omega arith) k in
           rw e (ap (λ x. handIn q (decoded x) (heard q i))
@@ -261,7 +260,7 @@ module _ (h : S.Head) (good : GoodHead h) (cells₀ : List ℕ) (room : cellsNee
 
       told-dealer : (q i : ℕ) (f : List ℕ) → member q (h .faulty) ≡ false → q ≡ headPlan h .dealer → f ≡ dealtFrame (codeHead h)
           → acted (headPlan h) (Hear q) rest f i (heard q i) ≡ heard (suc q) i
-      unfolding acted hear hears setting handIn dealtFrame codeHead isTaken receiving
+      unfolding acted takeAll hears setting handIn dealtFrame codeHead isTaken receiving
       told-dealer q i f e d ef =
           let t = dealt-is (subst (λ x. member x (h .faulty) ≡ false) d e) in
           let f-is : f ≡ encode (h .word ∷ []) = ef ∙ ap (λ o. cond (isTaken o) (o .values) []) t in
@@ -281,7 +280,7 @@ module _ (h : S.Head) (good : GoodHead h) (cells₀ : List ℕ) (room : cellsNee
 
       told-keeper : (q i : ℕ) (f : List ℕ) → keeper s q ≡ true → keeper s i ≡ true → f ≡ frameFrom (codeHead h) q (heard q q)
           → acted (headPlan h) (Hear q) rest f i (heard q i) ≡ heard (suc q) i
-      unfolding acted hear hears setting handIn at receiving wireOf
+      unfolding acted takeAll hears setting handIn at receiving wireOf
       told-keeper q i f kq ki ef =
           let (below, e, d) = keeper-facts s a sound q kq in
           let mq = mid q q (omega arith) kq in
@@ -332,7 +331,7 @@ module _ (h : S.Head) (good : GoodHead h) (cells₀ : List ℕ) (room : cellsNee
               told-keeper q i (frameFrom (codeHead h) q (boardOn n st q)) kq k (ap (frameFrom (codeHead h) q) (look (heard q) st x q kq)))
 
       heard-holds : (st : Stage) → Holds (at s a j) st → (q : ℕ) → q ≤ n → Holds (heard q) (hearSenders (codeHead h) rest q st)
-      unfolding hearSenders hear
+      unfolding hearSenders takeAll
       heard-holds st x zero l = x
       heard-holds st x (suc q) l = sender-holds q (hearSenders (codeHead h) rest q st) l (heard-holds st x q (omega arith))
 
