@@ -5,6 +5,7 @@ use codec::value::Value;
 use input::read_sheet;
 use libc::STDERR_FILENO;
 use libc::STDOUT_FILENO;
+use plan::plan::Plan;
 use printer::printing::report;
 use protocol::limits::CELLS;
 use protocol::limits::OUTPUT;
@@ -29,7 +30,7 @@ fn print_sheet(text: &[u8], cells: &mut [Value], out: &mut [u8]) -> usize
 fn main() {
     // One byte above the longest sheet, so that a longer one is told from it.
     let mut text = [0u8; SHEET + 1];
-    let mut cells = [255u8; CELLS];
+    let mut cells = [Plan::BLANK; CELLS];
     let mut out = [0u8; OUTPUT];
     let arrival = read_sheet(&mut text);
     if arrival.failed {
