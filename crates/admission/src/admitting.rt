@@ -4,7 +4,7 @@ use crate::limits::SETS;
 use refusals::refusal::Refusal;
 use refusals::refusal::Verdict;
 use sets::boards::all_boards;
-use sets::boards::subset;
+use sets::boards::within;
 use sets::holders::holders_of;
 ghost use mathlib.Core.Path.{_≡_};
 ghost use mathlib.Core.Bool.{not};
@@ -23,7 +23,7 @@ fn names_other(sets: &[u8], all: u8) -> bool
 {
     let mut i = 0;
     while i < sets.len() {
-        if !subset(sets[i], all) {
+        if !within(sets[i], all) {
             return true;
         }
         i += 1;
@@ -110,7 +110,7 @@ fn judge_cover(n: u8, sets: &[u8]) -> Verdict
     ensures { λ r. ⌜ verdict r ≡ covering n (now (sets .entry)) ⌝ }
 {
     let boards = union_of(sets);
-    if !subset(all_boards(n), boards) {
+    if !within(all_boards(n), boards) {
         return Verdict::Accepted;
     }
     judge_pairs(n, sets)

@@ -7,7 +7,7 @@ use plan::plan::Plan;
 use protocol::answers::Begun;
 use protocol::records::Record;
 use refusals::refusal::Verdict;
-use refusals::refusal::first_of;
+use refusals::refusal::and_then;
 use schedule::rounds::Round;
 use schedule::rounds::Run;
 ghost use mathlib.Core.Path.{_≡_};
@@ -58,7 +58,7 @@ fn judge_begin(plan: Plan, board: u8, cells: &[Value]) -> Verdict
     let plan_judged = plan.judge();
     let number_judged = judge_number(plan, board);
     let cells_judged = judge_cells(plan, cells);
-    first_of(plan_judged, first_of(number_judged, cells_judged))
+    and_then(plan_judged, and_then(number_judged, cells_judged))
 }
 
 // Beginning a board.

@@ -4,7 +4,7 @@ use plan::plan::Plan;
 use protocol::answers::Dealt;
 use refusals::refusal::Refusal;
 use refusals::refusal::Verdict;
-use refusals::refusal::first_of;
+use refusals::refusal::and_then;
 ghost use mathlib.Core.Path.{_≡_};
 ghost use mathlib.Core.Bool.{cond};
 ghost use mathlib.Core.List.{[]};
@@ -30,7 +30,7 @@ pub fn deal(plan: Plan, value: Value) -> Dealt
 {
     let plan_judged = plan.judge();
     let value_judged = judge_value(plan, value);
-    match first_of(plan_judged, value_judged) {
+    match and_then(plan_judged, value_judged) {
         Verdict::Refused(why) => Dealt::Refused(why),
         Verdict::Accepted => Dealt::Frame(value),
     }

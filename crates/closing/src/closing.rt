@@ -10,8 +10,8 @@ use protocol::records::Record;
 use refusals::refusal::Verdict;
 use schedule::rounds::Round;
 use schedule::rounds::Run;
-use schedule::rounds::last_round;
-use schedule::rounds::last_run;
+use schedule::rounds::rounds;
+use schedule::rounds::runs;
 ghost use mathlib.Core.Path.{_≡_};
 ghost use mathlib.Core.Bool.{true};
 ghost use Prim.Native.Nat.{_≤_, _<_};
@@ -47,7 +47,7 @@ fn next_run(r: Record, list: u8, root: u8) -> Record
     requires { ⌜ goodRecord r ≡ true ⌝ }
     ensures { λ x. ⌜ x ≡ runEnded r list root ⌝ }
 {
-    let last = last_run(r.plan);
+    let last = runs(r.plan);
     let most = last.0;
     let t = r.run.0;
     let mut next = r;
@@ -95,7 +95,7 @@ fn close_round(r: Record, cells: &mut [Value]) -> Record
         r.detected,
         cells,
     );
-    let end = last_round(r.plan);
+    let end = rounds(r.plan);
     let top = end.0;
     let k = r.round.0;
     if k < top {

@@ -26,7 +26,7 @@ use Rattle.tree.proofs.Masks.{mask-member}
 use Rattle.protocol.specs.Nodes.{internal, nodes, inner}
 use Rattle.protocol.specs.declared.records.Rule.the-variants as Rule
 use Rattle.protocol.specs.Listing.{join}
-use Rattle.protocol.specs.Detection.{byResolving, passes, detect2, detectAll2, detectLevels}
+use Rattle.protocol.specs.Detection.{byResolving, passes, detectC, detectAllC, detectLevels}
 use Rattle.protocol.proofs.Nodes.{no-node, node-root, inner-inv, node-inv, node-label, node-length}
 use Rattle.voting.specs.Worth.{worth, table}
 use Rattle.voting.specs.Tables.{explainedBy}
@@ -89,8 +89,8 @@ module _ (p : Plan) (i : ℕ) (cells : List ℕ) where
             (label-below (p .n) (p .dealer) k α ld (node-label p i k α v))))
 
         detect-same : (run : Run) (round : Round) (k : ℕ) (αs : List Label) (list : ℕ) → ((α : Label) → List·Memᴰ α αs → List·Memᴰ α (inner p i k))
-            → detectBy p run round (settledAll p i cells) αs list ≡ detectAll2 p i run round cells αs list
-        unfolding detectBy detectAll2 detect2
+            → detectBy p run round (settledAll p i cells) αs list ≡ detectAllC p i run round cells αs list
+        unfolding detectBy detectAllC detectC
         detect-same run round k [] list h = refl
         detect-same run round k (α ∷ αs) list h =
             ap (λ b. detectBy p run round (settledAll p i cells) αs (cond b list (join (last α) run round Rule.C (length α) list))) (passes-same k α list (h α (List·Memᴰ·head refl)))

@@ -5,7 +5,7 @@ use plan::plan::Plan;
 use resolving::resolving::resolve_root;
 use schedule::rounds::Round;
 use schedule::rounds::Run;
-use schedule::rounds::last_round;
+use schedule::rounds::rounds;
 ghost use Rattle.resolving.specs.Contracts.{Convertible};
 ghost use Rattle.conversion.specs.Contracts.{Converts};
 
@@ -28,7 +28,7 @@ pub fn convert_cells(
     requires { ⌜ Convertible plan (now holders) board (now cells) ⌝ }
     ensures { λ r. ⌜ Converts plan board run round list (r .root) (r .list) (now (cells .entry)) (now (cells .exit)) ⌝ }
 {
-    let last = last_round(plan);
+    let last = rounds(plan);
     let top = last.0;
     let root = resolve_root(plan, holders, board, top, cells);
     let found = detect_levels(plan, holders, board, run, round, top, list, cells);

@@ -7,7 +7,7 @@ use protocol::limits::NODES;
 use protocol::records::Rule;
 use schedule::rounds::Round;
 use schedule::rounds::Run;
-use sets::boards::has;
+use sets::boards::member;
 use tree::levels::level_start;
 use voting::explaining::explained_by;
 use walk::node::boards_of;
@@ -33,7 +33,7 @@ fn child_cells(n: u8, boards: u8, from: usize, cells: &[Value]) -> [Value; 8]
     let mut at = from;
     let mut c: u8 = 0;
     while c < n {
-        if !has(boards, c) {
+        if !member(boards, c) {
             values[c as usize] = cells[at];
             at += 1;
         }
@@ -48,7 +48,7 @@ fn passes(plan: Plan, holders: &[u8], from: usize, node: u32, list: u8, cells: &
     ensures { λ r. ⌜ r ≡ passesAt plan (now (cells .entry)) from node list ⌝ }
 {
     let set = as_set(list);
-    if has(set, last_of(node)) {
+    if member(set, last_of(node)) {
         return true;
     }
     let boards = boards_of(node);

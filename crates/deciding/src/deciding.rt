@@ -4,7 +4,7 @@ use protocol::answers::Decision;
 use protocol::records::Record;
 use refusals::refusal::Refusal;
 use refusals::refusal::Verdict;
-use refusals::refusal::first_of;
+use refusals::refusal::and_then;
 ghost use mathlib.Core.Path.{_≡_};
 ghost use mathlib.Core.Bool.{cond};
 ghost use mathlib.Core.List.{[]};
@@ -29,7 +29,7 @@ pub fn decide(r: Record) -> Decision
     let record_judged = judge_record(r);
     let decided_judged = judge_undecided(r.decided);
     let decision = r.decision;
-    match first_of(record_judged, decided_judged) {
+    match and_then(record_judged, decided_judged) {
         Verdict::Refused(why) => Decision::Refused(why),
         Verdict::Accepted => Decision::Value(decision),
     }

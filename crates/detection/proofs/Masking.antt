@@ -19,7 +19,7 @@ use Rattle.schedule.specs.declared.rounds.Round.{Round}
 use Rattle.protocol.specs.Nodes.{filter, nodes, inner, carried, sent}
 use Rattle.protocol.specs.declared.records.Rule.the-variants as Rule
 use Rattle.protocol.specs.Listing.{join}
-use Rattle.protocol.specs.Detection.{byCell, passes, Scan, maskBoard, detect1}
+use Rattle.protocol.specs.Detection.{byCell, passes, Scan, maskBoard, detectG}
 use Rattle.protocol.specs.Rounds.{fill}
 use Rattle.frames.specs.Nodes.{Standing}
 use Rattle.frames.proofs.Listed.{sent-carried}
@@ -100,11 +100,11 @@ mask-sent {p = p} {i = i} {k = k} s later q α cells l e =
 
 -- Rule G at a node.
 module _ (p : Plan) (i : ℕ) (run : Run) (round : Round) (α : Label) (s : Scan) where
-  pub detect-kept : passes p α (byCell p (s .cells) α) (s .detected) ≡ true → detect1 p i run round α s ≡ s
-  unfolding detect1
+  pub detect-kept : passes p α (byCell p (s .cells) α) (s .detected) ≡ true → detectG p i run round α s ≡ s
+  unfolding detectG
   detect-kept e = rw e refl
 
   pub detect-joined : passes p α (byCell p (s .cells) α) (s .detected) ≡ false
-      → detect1 p i run round α s ≡ record { detected = join (last α) run round Rule.G (length α) (s .detected); cells = maskBoard p (last α) (nodes p i (suc (length α))) (s .cells) }
-  unfolding detect1
+      → detectG p i run round α s ≡ record { detected = join (last α) run round Rule.G (length α) (s .detected); cells = maskBoard p (last α) (nodes p i (suc (length α))) (s .cells) }
+  unfolding detectG
   detect-joined e = rw e refl

@@ -8,7 +8,7 @@ use protocol::limits::NODES;
 use protocol::records::Rule;
 use schedule::rounds::Round;
 use schedule::rounds::Run;
-use sets::boards::has;
+use sets::boards::member;
 use tree::levels::level_start;
 use voting::explaining::explained_by;
 use walk::node::boards_of;
@@ -25,7 +25,7 @@ ghost use Rattle.plan.specs.Listed.{listed};
 ghost use Rattle.tree.specs.Labels.{mask};
 ghost use Rattle.tree.specs.Places.{cellCount, startWithin};
 ghost use Rattle.protocol.specs.Nodes.{inner};
-ghost use Rattle.protocol.specs.Detection.{byCell, passes, detect1, detectAll1};
+ghost use Rattle.protocol.specs.Detection.{byCell, passes, detectG, detectAllG};
 ghost use Rattle.voting.specs.Worth.{table};
 ghost use Rattle.frames.specs.Nodes.{Standing, Nodes, nodeAt, labelsOf};
 ghost use Rattle.detection.specs.Visits.{kid, Kids, Visit};
@@ -40,7 +40,7 @@ fn child_values(plan: Plan, boards: u8, from: usize, cells: &[Value]) -> [Value;
     let mut at = from;
     let mut c: u8 = 0;
     while c < n {
-        if !has(boards, c) {
+        if !member(boards, c) {
             values[c as usize] = plan.value(cells[at]);
             at += 1;
         }
@@ -72,7 +72,7 @@ fn passes_at(
     ensures { λ b. ⌜ b ≡ passes plan (nodeAt plan level node) (byCell plan (now (cells .entry)) (nodeAt plan level node)) list ⌝ }
 {
     let set = as_set(list);
-    if has(set, last_of(node)) {
+    if member(set, last_of(node)) {
         return true;
     }
     let boards = boards_of(node);
@@ -93,7 +93,7 @@ fn detect_at(
     cells: &mut [Value],
 ) -> u8
     requires { ⌜ Standing plan (now holders) board round × (2 ≤ round .0) × Visit plan (now holders) (round .0 - 1) node start (now cells) ⌝ }
-    ensures { λ d. ⌜ (d ≡ detect1 plan board run round (nodeAt plan (round .0 - 1) node) (record { detected = list; cells = now (cells .entry) }) .detected) × (now (cells .exit) ≡ detect1 plan board run round (nodeAt plan (round .0 - 1) node) (record { detected = list; cells = now (cells .entry) }) .cells) ⌝ }
+    ensures { λ d. ⌜ (d ≡ detectG plan board run round (nodeAt plan (round .0 - 1) node) (record { detected = list; cells = now (cells .entry) }) .detected) × (now (cells .exit) ≡ detectG plan board run round (nodeAt plan (round .0 - 1) node) (record { detected = list; cells = now (cells .entry) }) .cells) ⌝ }
 {
     if passes_at(plan, holders, round.0 - 1, node, start, list, cells) {
         return list;
@@ -115,7 +115,7 @@ fn detect_list(
     cells: &mut [Value],
 ) -> u8
     requires { ⌜ Standing plan (now holders) board round × (2 ≤ round .0) × (cellCount (plan .n) ≤ length (now cells)) × Nodes plan (round .0 - 1) (now nodes) × ((j : ℕ) → j < length (now nodes) → tolerated (listed plan) (mask (nodeAt plan (round .0 - 1) (getD (now nodes) j 0))) ≡ true) ⌝ }
-    ensures { λ d. ⌜ (d ≡ detectAll1 plan board run round (labelsOf plan (round .0 - 1) (now (nodes .entry))) (record { detected = list; cells = now (cells .entry) }) .detected) × (now (cells .exit) ≡ detectAll1 plan board run round (labelsOf plan (round .0 - 1) (now (nodes .entry))) (record { detected = list; cells = now (cells .entry) }) .cells) ⌝ }
+    ensures { λ d. ⌜ (d ≡ detectAllG plan board run round (labelsOf plan (round .0 - 1) (now (nodes .entry))) (record { detected = list; cells = now (cells .entry) }) .detected) × (now (cells .exit) ≡ detectAllG plan board run round (labelsOf plan (round .0 - 1) (now (nodes .entry))) (record { detected = list; cells = now (cells .entry) }) .cells) ⌝ }
 {
     let start = level_start(plan.n, round.0);
     let mut detected = list;
@@ -148,7 +148,7 @@ pub fn detect_cells(
     cells: &mut [Value],
 ) -> u8
     requires { ⌜ Standing plan (now holders) board round × (2 ≤ round .0) × (cellCount (plan .n) ≤ length (now cells)) ⌝ }
-    ensures { λ d. ⌜ (d ≡ detectAll1 plan board run round (inner plan board (round .0 - 1)) (record { detected = list; cells = now (cells .entry) }) .detected) × (now (cells .exit) ≡ detectAll1 plan board run round (inner plan board (round .0 - 1)) (record { detected = list; cells = now (cells .entry) }) .cells) ⌝ }
+    ensures { λ d. ⌜ (d ≡ detectAllG plan board run round (inner plan board (round .0 - 1)) (record { detected = list; cells = now (cells .entry) }) .detected) × (now (cells .exit) ≡ detectAllG plan board run round (inner plan board (round .0 - 1)) (record { detected = list; cells = now (cells .entry) }) .cells) ⌝ }
 {
     let mut nodes = [0u32; NODES];
     let count = inner_nodes(plan, holders, board, round.0 - 1, &mut nodes);

@@ -6,7 +6,7 @@ use frames::writing::write_at;
 use plan::plan::Plan;
 use protocol::limits::VALUES;
 use schedule::rounds::Round;
-use sets::boards::has;
+use sets::boards::member;
 use walk::nodes::carried_nodes;
 ghost use mathlib.Core.Path.{_≡_};
 ghost use mathlib.Core.List.{[]};
@@ -44,7 +44,7 @@ pub fn fill_missing(
     let n = plan.n;
     let mut q: u8 = 0;
     while q < n {
-        if q != board && !has(taken, q) {
+        if q != board && !member(taken, q) {
             silence(plan, holders, board, q, round, cells);
         }
         q += 1;

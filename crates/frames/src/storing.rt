@@ -4,7 +4,7 @@ use codec::value::value_at;
 use codec::value::value_count;
 use listing::listing::as_set;
 use plan::plan::Plan;
-use sets::boards::has;
+use sets::boards::member;
 use tree::levels::level_start;
 use tree::nodes::child_index;
 use walk::node::boards_of;
@@ -57,7 +57,7 @@ pub fn store_frame(
     ensures { λ _. ⌜ now (cells .exit) ≡ fill plan q (labelsOf plan level (now (nodes .entry))) (counted detected q (labelsOf plan level (now (nodes .entry))) (decode (now (frame .entry)))) (now (cells .entry)) ⌝ }
 {
     let mut length: usize = 0;
-    if value_count(frame) == nodes.len() && !has(as_set(detected), q) {
+    if value_count(frame) == nodes.len() && !member(as_set(detected), q) {
         length = frame.len();
     }
     store_at(plan, level, q, nodes, &frame[0..length], cells);

@@ -16,7 +16,7 @@ use Rattle.schedule.specs.declared.rounds.Round.{Round}
 use Rattle.plan.specs.declared.plan.Plan.{Plan}
 use Rattle.plan.specs.Values.{default}
 use Rattle.protocol.specs.Nodes.{filter, nodes, inner, sent}
-use Rattle.protocol.specs.Detection.{Scan, detectAll1}
+use Rattle.protocol.specs.Detection.{Scan, detectAllG}
 use Rattle.protocol.specs.Rounds.{fill, fillMissing, copyOwn}
 use Rattle.frames.specs.Nodes.{Standing, entry}
 use Rattle.frames.proofs.Due.{due-word, sent-word}
@@ -56,7 +56,7 @@ module _ {p : Plan} {holders : List ℕ} {i : ℕ} {k : Round} (s : Standing p h
 
   -- Rule G does not run in round 1.
   gathered-word : (run : Run) (detected : ℕ) → gathered p i run k taken detected cells ≡ record { detected = detected; cells = rooted }
-  unfolding gathered inner nodes filter detectAll1 copyOwn fill
+  unfolding gathered inner nodes filter detectAllG copyOwn fill
   gathered-word run detected =
       rw ((let z : k .0 - 1 ≡ 0 = omega arith in z), own-none, above (p .n) (s .dealer-below) (omega arith)) refl
 

@@ -6,12 +6,12 @@ use Rattle.plan.specs.declared.plan.Plan.{Plan}
 use Rattle.schedule.specs.declared.rounds.Run.{Run}
 use Rattle.schedule.specs.declared.rounds.Round.{Round}
 use Rattle.protocol.specs.Nodes.{inner}
-use Rattle.protocol.specs.Detection.{Scan, detectAll1}
+use Rattle.protocol.specs.Detection.{Scan, detectAllG}
 use Rattle.protocol.specs.Rounds.{fillMissing, copyOwn}
 
 unfoldable pub gathered : Plan → ℕ → Run → Round → ℕ → ℕ → List ℕ → Scan
 gathered p i t k taken detected cells =
-    detectAll1 p i t k (inner p i (k .0 - 1)) (record { detected = detected; cells = copyOwn p i k (fillMissing p i k taken (p .n) cells) })
+    detectAllG p i t k (inner p i (k .0 - 1)) (record { detected = detected; cells = copyOwn p i k (fillMissing p i k taken (p .n) cells) })
 
 -- The list and the cells after it.
 pub record Gathers (p : Plan) (i : ℕ) (t : Run) (k : Round) (taken detected found : ℕ) (before after : List ℕ) : Type 0 where

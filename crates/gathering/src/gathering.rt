@@ -6,7 +6,7 @@ use filling::filling::fill_missing;
 use plan::plan::Plan;
 use schedule::rounds::Round;
 use schedule::rounds::Run;
-use sets::boards::has;
+use sets::boards::member;
 ghost use mathlib.Core.Path.{_≡_};
 ghost use mathlib.Core.Bool.{cond};
 ghost use Prim.Native.Nat.{_≤_, _<_};
@@ -23,7 +23,7 @@ fn gather_word(plan: Plan, taken: u8, cells: &mut [Value])
     ensures { λ _. ⌜ now (cells .exit) ≡ cond (member (plan .dealer) taken) (now (cells .entry)) (set (now (cells .entry)) 0 (default plan)) ⌝ }
 {
     let dealer = plan.dealer;
-    if has(taken, dealer) {
+    if member(taken, dealer) {
         return;
     }
     cells[0] = plan.default();

@@ -6,7 +6,7 @@ use protocol::answers::Sent;
 use protocol::limits::FRAME;
 use protocol::records::Record;
 use sending::sending::send;
-use sets::boards::has;
+use sets::boards::member;
 use stage::acting::Act;
 use stage::acting::act_all;
 use text::head::Head;
@@ -75,7 +75,7 @@ fn hear_sender(
     ensures { λ r. ⌜ (r ≡ hearSender head (framesFrom (now (text .entry)) from) q (record { recs = records; cells = now (cells .entry) }) .recs) × (now (cells .exit) ≡ hearSender head (framesFrom (now (text .entry)) from) q (record { recs = records; cells = now (cells .entry) }) .cells) ⌝ }
 {
     let faulty = head.faulty;
-    if has(faulty, q) {
+    if member(faulty, q) {
         return act_all(
             head,
             Act::HearFaulty(q),

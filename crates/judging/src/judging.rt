@@ -5,10 +5,10 @@ use plan::plan::Plan;
 use protocol::records::Record;
 use refusals::refusal::Refusal;
 use refusals::refusal::Verdict;
-use refusals::refusal::first_of;
+use refusals::refusal::and_then;
 use schedule::rounds::has_round;
 use sets::boards::all_boards;
-use sets::boards::subset;
+use sets::boards::within;
 use tree::levels::cell_count;
 ghost use mathlib.Core.Path.{_≡_};
 ghost use mathlib.Core.Bool.{_&&_, cond};
@@ -64,10 +64,10 @@ fn has_good_fields(r: Record) -> bool
     let decided = r.decided;
     let decision = r.decision;
     let span = r.plan.span;
-    if !subset(as_set(r.detected), all) {
+    if !within(as_set(r.detected), all) {
         return false;
     }
-    if !subset(r.taken, all) {
+    if !within(r.taken, all) {
         return false;
     }
     if decided {
@@ -119,5 +119,5 @@ pub fn judge_open(r: Record, cells: &[Value]) -> Verdict
     let record_judged = judge_record(r);
     let cells_judged = judge_cells(r.plan, cells);
     let decided_judged = judge_decided(r.decided);
-    first_of(record_judged, first_of(cells_judged, decided_judged))
+    and_then(record_judged, and_then(cells_judged, decided_judged))
 }

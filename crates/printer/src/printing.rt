@@ -8,7 +8,7 @@ use protocol::limits::LINE;
 use protocol::limits::OUTPUT;
 use protocol::records::Record;
 use refusals::refusal::Refusal;
-use sets::boards::has;
+use sets::boards::member;
 ghost use mathlib.Core.Path.{_≡_};
 ghost use mathlib.Core.Bool.{cond};
 ghost use mathlib.Core.List.{[], _++_};
@@ -79,7 +79,7 @@ pub fn print_boards(
     let mut i: u8 = 0;
     while i < n {
         let r = records[i as usize];
-        if !has(faulty, i) {
+        if !member(faulty, i) {
             let decision = shown(i, dealer, word, r.decision);
             let detected = shown(i, dealer, 0, as_set(r.detected));
             print_line(out, used, i, decision, detected);

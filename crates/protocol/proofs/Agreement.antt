@@ -34,7 +34,7 @@ use Rattle.protocol.proofs.Listing.{listOf}
 use Rattle.protocol.proofs.Converting.{convert-cells}
 use Rattle.protocol.proofs.Delivery.{healthy-keeper}
 use Rattle.protocol.proofs.Soundness.{open-round, inv, flow, scan-is, scan-lists, scan-root, run-ends, some-value, dealer-below, lists-within, root-read}
-use Rattle.protocol.proofs.Runs.{scan, scan-other, lists-grow, run-keeps, round-step, masked, spared-fd1, spared-fd2}
+use Rattle.protocol.proofs.Runs.{scan, scan-other, lists-grow, run-keeps, round-step, masked, spared-g, spared-c}
 
 module _ (s : Setting) (a : Adversary) (sound : Sound s) where
   abbrev plan : Plan
@@ -121,14 +121,14 @@ module _ (s : Setting) (a : Adversary) (sound : Sound s) where
         let far = room-before t lt in
         subst (λ x. member r (at s a x i .rec .detected) ≡ true) (let z : first-step t + (suc (last-step t) - first-step t) ≡ suc (last-step t) = omega arith in z)
         (lists-grow s a sound i ki (suc (last-step t) - first-step t) (first-step t) (let h = in-time t lt in omega arith) r on);
-    fd1 = λ {p = i} {r} {k} {α} H N inn nd u.
+    rule-g = λ {p = i} {r} {k} {α} H N inn nd u.
         let ki = healthy-keeper s a sound i H in
         let (m, eq, size) = inner-node N inn in
-        spared-fd1 s a sound (last-step t) (in-time t lt) (at-end t lt) i ki (length (r ∷ α) - 1) (r ∷ α) m (omega arith) (unfold last in u);
-    fd2 = λ {p = i} {r} {k} {α} H N inn u.
+        spared-g s a sound (last-step t) (in-time t lt) (at-end t lt) i ki (length (r ∷ α) - 1) (r ∷ α) m (omega arith) (unfold last in u);
+    rule-c = λ {p = i} {r} {k} {α} H N inn u.
         let ki = healthy-keeper s a sound i H in
         let (m, eq, size) = inner-node N inn in
-        spared-fd2 s a sound (last-step t) (in-time t lt) (at-end t lt) i ki (length (r ∷ α) - 1) k (r ∷ α) m eq size (unfold last in u);
+        spared-c s a sound (last-step t) (in-time t lt) (at-end t lt) i ki (length (r ∷ α) - 1) k (r ∷ α) m eq size (unfold last in u);
   }
 
   -- The root that the end of a run leaves.

@@ -23,7 +23,7 @@ use Rattle.sets.specs.Only.{only}
 use Rattle.sets.proofs.Only.{only-some}
 use Rattle.protocol.specs.declared.records.Rule.the-variants as Rule
 use Rattle.protocol.specs.Listing.{join}
-use Rattle.protocol.specs.Detection.{vote, resolve, resolveRoot, byCell, byResolving, passes, Scan, detect1, detectAll1, detect2, detectAll2, detectLevels}
+use Rattle.protocol.specs.Detection.{vote, resolve, resolveRoot, byCell, byResolving, passes, Scan, detectG, detectAllG, detectC, detectAllC, detectLevels}
 use Rattle.protocol.specs.Rounds.{Board, gather}
 use Rattle.protocol.proofs.Nodes.{inner-inv, node-label}
 use Rattle.protocol.proofs.Listing.{join-below}
@@ -77,15 +77,15 @@ last-below n d zero α l m = absurd (no-label n d α m)
 last-below n d (suc zero) α l m = rw (root-inv n d α m) l
 last-below n d (suc (suc k)) α l m = let (β, w, (q, x, lq, a)) = label-inv n d k α m in rw x lq
 
--- Rule FD2 at a node: a board whose children no value explains, with the list, joins it; else the list stays.
+-- Rule C at a node: a board whose children no value explains, with the list, joins it; else the list stays.
 module _ (p : Plan) (i : ℕ) (run : Run) (round : Round) (cells : List ℕ) (α : Label) (s : ℕ) where
-  pub detect2-joined : passes p α (byResolving p i cells α) s ≡ false → detect2 p i run round cells α s ≡ join (last α) run round Rule.C (length α) s
-  unfolding detect2
-  detect2-joined e = rw e
+  pub detectC-joined : passes p α (byResolving p i cells α) s ≡ false → detectC p i run round cells α s ≡ join (last α) run round Rule.C (length α) s
+  unfolding detectC
+  detectC-joined e = rw e
 
-  pub detect2-kept : passes p α (byResolving p i cells α) s ≡ true → detect2 p i run round cells α s ≡ s
-  unfolding detect2
-  detect2-kept e = rw e
+  pub detectC-kept : passes p α (byResolving p i cells α) s ≡ true → detectC p i run round cells α s ≡ s
+  unfolding detectC
+  detectC-kept e = rw e
 
 module _ (p : Plan) (l : p .dealer < p .n) (i : ℕ) where
   -- These are nodes.
@@ -96,30 +96,30 @@ module _ (p : Plan) (l : p .dealer < p .n) (i : ℕ) where
   inner-below α h = let (k, m) = h in last-below (p .n) (p .dealer) k α l (node-label p i k α (inner-inv p i k α m .0))
 
   module _ (run : Run) (round : Round) where
-    pub detect1-below : (αs : List Label) (s : Scan) → Inner αs → s .detected < 2 ^ p .n → detectAll1 p i run round αs s .detected < 2 ^ p .n
-    unfolding detectAll1 detect1
-    detect1-below [] s h b = b
-    detect1-below (α ∷ αs) s h b =
-        detect1-below αs (detect1 p i run round α s) (λ β w. h β (List·Memᴰ·tail w))
+    pub detectG-below : (αs : List Label) (s : Scan) → Inner αs → s .detected < 2 ^ p .n → detectAllG p i run round αs s .detected < 2 ^ p .n
+    unfolding detectAllG detectG
+    detectG-below [] s h b = b
+    detectG-below (α ∷ αs) s h b =
+        detectG-below αs (detectG p i run round α s) (λ β w. h β (List·Memᴰ·tail w))
         (cases (passes p α (byCell p (s .cells) α) (s .detected)) (λ e. rw e b)
         (λ e. rw e (join-below run round Rule.G (length α) (p .n) (last α) (s .detected) (inner-below α (h α (List·Memᴰ·head refl))) b)))
 
-    pub detect2-below : (cells : List ℕ) (αs : List Label) (s : ℕ) → Inner αs → s < 2 ^ p .n → detectAll2 p i run round cells αs s < 2 ^ p .n
-    unfolding detectAll2
-    detect2-below cells [] s h b = b
-    detect2-below cells (α ∷ αs) s h b =
-        detect2-below cells αs (detect2 p i run round cells α s) (λ β w. h β (List·Memᴰ·tail w))
-        (cases (passes p α (byResolving p i cells α) s) (λ e. rw (detect2-kept p i run round cells α s e) b)
-        (λ e. rw (detect2-joined p i run round cells α s e) (join-below run round Rule.C (length α) (p .n) (last α) s (inner-below α (h α (List·Memᴰ·head refl))) b)))
+    pub detectC-below : (cells : List ℕ) (αs : List Label) (s : ℕ) → Inner αs → s < 2 ^ p .n → detectAllC p i run round cells αs s < 2 ^ p .n
+    unfolding detectAllC
+    detectC-below cells [] s h b = b
+    detectC-below cells (α ∷ αs) s h b =
+        detectC-below cells αs (detectC p i run round cells α s) (λ β w. h β (List·Memᴰ·tail w))
+        (cases (passes p α (byResolving p i cells α) s) (λ e. rw (detectC-kept p i run round cells α s e) b)
+        (λ e. rw (detectC-joined p i run round cells α s e) (join-below run round Rule.C (length α) (p .n) (last α) s (inner-below α (h α (List·Memᴰ·head refl))) b)))
 
     pub levels-below : (cells : List ℕ) (k s : ℕ) → s < 2 ^ p .n → detectLevels p i run round cells k s < 2 ^ p .n
     unfolding detectLevels
     levels-below cells zero s b = b
     levels-below cells (suc k) s b =
-        levels-below cells k (detectAll2 p i run round cells (inner p i (suc k)) s) (detect2-below cells (inner p i (suc k)) s (λ α m. (suc k, m)) b)
+        levels-below cells k (detectAllC p i run round cells (inner p i (suc k)) s) (detectC-below cells (inner p i (suc k)) s (λ α m. (suc k, m)) b)
 
 pub gather-below : (b : Board) → b .rec .plan .dealer < b .rec .plan .n → b .rec .detected < 2 ^ b .rec .plan .n → gather b .detected < 2 ^ b .rec .plan .n
 unfolding gather
 gather-below b l h =
-    detect1-below (b .rec .plan) l (b .rec .board) (b .rec .run) (b .rec .round) (inner (b .rec .plan) (b .rec .board) (b .rec .round .0 - 1)) _
+    detectG-below (b .rec .plan) l (b .rec .board) (b .rec .run) (b .rec .round) (inner (b .rec .plan) (b .rec .board) (b .rec .round .0 - 1)) _
     (λ α m. (b .rec .round .0 - 1, m)) h

@@ -1,4 +1,4 @@
--- Rule FD2 over the levels: lists grow, a board that is not listed in the end was spared at each of its nodes, and no healthy board is listed.
+-- Rule C over the levels: lists grow, a board that is not listed in the end was spared at each of its nodes, and no healthy board is listed.
 -- Assumes nothing.
 use Prim.Native.Nat.{ℕ, zero, suc, _-_, _≤_, _<_}
 use mathlib.Core.Path.{_≡_, refl, sym, _∙_, subst}
@@ -25,28 +25,28 @@ use Rattle.theory.specs.Tree as T
 use Rattle.theory.proofs.Soundness.{spared}
 use Rattle.protocol.specs.Nodes.{inner}
 use Rattle.protocol.specs.declared.records.Rule.the-variants as Rule
-use Rattle.protocol.specs.Detection.{resolveRoot, Scan, explained, byResolving, passes, detect2, detectAll2, detectLevels}
+use Rattle.protocol.specs.Detection.{resolveRoot, Scan, explained, byResolving, passes, detectC, detectAllC, detectLevels}
 use Rattle.protocol.specs.Records.{runEnded}
 use Rattle.protocol.specs.Rounds.{Board, rootOnly, convert}
-use Rattle.protocol.proofs.Bounds.{detect2-joined, detect2-kept}
+use Rattle.protocol.proofs.Bounds.{detectC-joined, detectC-kept}
 use Rattle.protocol.proofs.Instance.{tol, tol-mono, inst}
 use Rattle.protocol.proofs.Gathering.{explained-inst}
 use Rattle.protocol.proofs.Listing.{listOf, join-has, join-keeps, join-inv}
 
 module _ (p : Plan) (i : ℕ) (run : Run) (round : Round) (cells : List ℕ) where
-  detect2-grow : (α : Label) (s r : ℕ) → member r s ≡ true → member r (detect2 p i run round cells α s) ≡ true
-  detect2-grow α s r h =
-      cases (passes p α (byResolving p i cells α) s) (λ e. rw (detect2-kept p i run round cells α s e) h) (λ e. rw (detect2-joined p i run round cells α s e) (join-keeps run round Rule.C (length α) (last α) s r h))
+  detectC-grow : (α : Label) (s r : ℕ) → member r s ≡ true → member r (detectC p i run round cells α s) ≡ true
+  detectC-grow α s r h =
+      cases (passes p α (byResolving p i cells α) s) (λ e. rw (detectC-kept p i run round cells α s e) h) (λ e. rw (detectC-joined p i run round cells α s e) (join-keeps run round Rule.C (length α) (last α) s r h))
 
-  level-grow : (αs : List Label) (s r : ℕ) → member r s ≡ true → member r (detectAll2 p i run round cells αs s) ≡ true
-  unfolding detectAll2
+  level-grow : (αs : List Label) (s r : ℕ) → member r s ≡ true → member r (detectAllC p i run round cells αs s) ≡ true
+  unfolding detectAllC
   level-grow [] s r h = h
-  level-grow (α ∷ αs) s r h = level-grow αs (detect2 p i run round cells α s) r (detect2-grow α s r h)
+  level-grow (α ∷ αs) s r h = level-grow αs (detectC p i run round cells α s) r (detectC-grow α s r h)
 
   pub levels-grow : (k s r : ℕ) → member r s ≡ true → member r (detectLevels p i run round cells k s) ≡ true
   unfolding detectLevels
   levels-grow zero s r h = h
-  levels-grow (suc k) s r h = levels-grow k (detectAll2 p i run round cells (inner p i (suc k)) s) r (level-grow (inner p i (suc k)) s r h)
+  levels-grow (suc k) s r h = levels-grow k (detectAllC p i run round cells (inner p i (suc k)) s) r (level-grow (inner p i (suc k)) s r h)
 
   -- Some value leaves a tolerated set of children with another, and of listed boards.
   abbrev pub SparedBy : ℕ → Label → Type 0
@@ -65,32 +65,32 @@ module _ (p : Plan) (i : ℕ) (run : Run) (round : Round) (cells : List ℕ) whe
             (or-true (T.others α (byResolving p i cells α) v c) (member c s) z)) e,
       )
 
-  spared-here : (α : Label) (s : ℕ) → member (last α) (detect2 p i run round cells α s) ≡ false → SparedBy s α
+  spared-here : (α : Label) (s : ℕ) → member (last α) (detectC p i run round cells α s) ≡ false → SparedBy s α
   unfolding passes explained tol
   spared-here α s u =
       cases (passes p α (byResolving p i cells α) s)
-      (λ e. let new = subst (λ x. member (last α) x ≡ false) (detect2-kept p i run round cells α s e) u in
+      (λ e. let new = subst (λ x. member (last α) x ≡ false) (detectC-kept p i run round cells α s e) u in
       let why : explained p α (byResolving p i cells α) s ≡ true =
       ⊎-elim (λ t. clash t new) (λ t. t) (or-true (member (last α) s) (explained p α (byResolving p i cells α) s) e) in
       any-true (λ v. tolerated (listed p) (setOf (λ c. (not (occurs c α) && not (same (byResolving p i cells α c) (some v))) || member c s) (p .n))) (p .span) why)
-      (λ e. clash (join-has run round Rule.C (length α) (last α) s) (subst (λ x. member (last α) x ≡ false) (detect2-joined p i run round cells α s e) u))
+      (λ e. clash (join-has run round Rule.C (length α) (last α) s) (subst (λ x. member (last α) x ≡ false) (detectC-joined p i run round cells α s e) u))
 
-  level-spared : (αs : List Label) (s : ℕ) (α : Label) → List·Memᴰ α αs → member (last α) (detectAll2 p i run round cells αs s) ≡ false → SparedBy s α
-  unfolding detectAll2
+  level-spared : (αs : List Label) (s : ℕ) (α : Label) → List·Memᴰ α αs → member (last α) (detectAllC p i run round cells αs s) ≡ false → SparedBy s α
+  unfolding detectAllC
   level-spared [] s α m u = absurd (List·Memᴰ·not-nil m)
   level-spared (β ∷ αs) s α m u =
-      let s′ = detect2 p i run round cells β s in
+      let s′ = detectC p i run round cells β s in
       ⊎-elim
       (λ e. subst (SparedBy s) (sym e) (spared-here β s (is-false (member (last β) s′) (λ t.
-      clash (level-grow αs s′ (last β) t) (subst (λ x. member (last x) (detectAll2 p i run round cells αs s′) ≡ false) e u)))))
-      (λ m′. fewer α s s′ (detect2-grow β s) (level-spared αs s′ α m′ u))
+      clash (level-grow αs s′ (last β) t) (subst (λ x. member (last x) (detectAllC p i run round cells αs s′) ≡ false) e u)))))
+      (λ m′. fewer α s s′ (detectC-grow β s) (level-spared αs s′ α m′ u))
       (List·Memᴰ·cases-cons m)
 
   pub levels-spared : (k s j : ℕ) (α : Label) → 1 ≤ j → j ≤ k → List·Memᴰ α (inner p i j) → member (last α) (detectLevels p i run round cells k s) ≡ false → SparedBy s α
   unfolding detectLevels
   levels-spared zero s j α low high m u = absurd (omega arith)
   levels-spared (suc k) s j α low high m u =
-      let s′ = detectAll2 p i run round cells (inner p i (suc k)) s in
+      let s′ = detectAllC p i run round cells (inner p i (suc k)) s in
       cases (eqb j (suc k))
       (λ e. level-spared (inner p i (suc k)) s α (subst (λ x. List·Memᴰ α (inner p i x)) (eqb-true j (suc k) e) m)
       (is-false (member (last α) s′) (λ t. clash (levels-grow k s′ (last α) t) u)))
@@ -106,33 +106,33 @@ module _ (p : Plan) (i : ℕ) (run : Run) (round : Round) (cells : List ℕ) whe
     abbrev pub Sound : ℕ → Type 0
     Sound s = T.Sub (p .n) (listOf s) (listOf F)
 
-    detect2-sound : (α : Label) (s : ℕ) {j : ℕ} → T.Node (inst p) i j α → Minds α → Sound s → Sound (detect2 p i run round cells α s)
+    detectC-sound : (α : Label) (s : ℕ) {j : ℕ} → T.Node (inst p) i j α → Minds α → Sound s → Sound (detectC p i run round cells α s)
     unfolding passes
-    detect2-sound α s N mind sound q lq t =
+    detectC-sound α s N mind sound q lq t =
         cases (passes p α (byResolving p i cells α) s)
-        (λ e. sound q lq (subst (λ x. member q x ≡ true) (detect2-kept p i run round cells α s e) t))
+        (λ e. sound q lq (subst (λ x. member q x ≡ true) (detectC-kept p i run round cells α s e) t))
         (λ e. ⊎-elim
         (λ x. is-true (member q F) (λ out.
         let (v, lv, u) = mind (subst (λ z. member z F ≡ false) x out) in
         clash (explained-inst p α (byResolving p i cells α) s ∙ spared G v (byResolving p i cells α) (listOf s) N lv u sound)
         (or-r (member (last α) s) (explained p α (byResolving p i cells α) s) e)))
         (sound q lq)
-        (join-inv run round Rule.C (length α) (last α) s q (subst (λ x. member q x ≡ true) (detect2-joined p i run round cells α s e) t)))
+        (join-inv run round Rule.C (length α) (last α) s q (subst (λ x. member q x ≡ true) (detectC-joined p i run round cells α s e) t)))
 
     level-sound : (αs : List Label) (s : ℕ) → ((α : Label) → List·Memᴰ α αs → (left : ℕ) × T.Node (inst p) i left α × Minds α) → Sound s
-        → Sound (detectAll2 p i run round cells αs s)
-    unfolding detectAll2
+        → Sound (detectAllC p i run round cells αs s)
+    unfolding detectAllC
     level-sound [] s f sound = sound
     level-sound (α ∷ αs) s f sound =
         let (left, N, mind) = f α (List·Memᴰ·head refl) in
-        level-sound αs (detect2 p i run round cells α s) (λ β w. f β (List·Memᴰ·tail w)) (detect2-sound α s N mind sound)
+        level-sound αs (detectC p i run round cells α s) (λ β w. f β (List·Memᴰ·tail w)) (detectC-sound α s N mind sound)
 
     pub levels-sound : (k s : ℕ) → ((j : ℕ) (α : Label) → 1 ≤ j → j ≤ k → List·Memᴰ α (inner p i j) → (left : ℕ) × T.Node (inst p) i left α × Minds α)
         → Sound s → Sound (detectLevels p i run round cells k s)
     unfolding detectLevels
     levels-sound zero s h sound = sound
     levels-sound (suc k) s h sound =
-        levels-sound k (detectAll2 p i run round cells (inner p i (suc k)) s) (λ j α low high m. h j α low (omega arith) m)
+        levels-sound k (detectAllC p i run round cells (inner p i (suc k)) s) (λ j α low high m. h j α low (omega arith) m)
         (level-sound (inner p i (suc k)) s (λ α m. h (suc k) α (omega arith) (omega arith) m) sound)
 
 -- 01: "L stays" when a run ends.

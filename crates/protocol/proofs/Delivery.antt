@@ -1,4 +1,4 @@
--- One step of the session: what healthy boards hear of one another, and that none of them is listed by rule FD1.
+-- One step of the session: what healthy boards hear of one another, and that none of them is listed by rule G.
 -- Assumes nothing.
 use Prim.Native.Nat.{ℕ, suc, _-_, _≤_, _<_, _^_}
 use mathlib.Core.Path.{_≡_, refl, sym, _∙_, ap, subst}
@@ -28,7 +28,7 @@ use Rattle.tree.specs.Labels.{Label, occurs}
 use Rattle.theory.specs.Tree as T
 use Rattle.plan.specs.Values.{value}
 use Rattle.protocol.specs.Nodes.{read, nodes, inner, sent, due, frame}
-use Rattle.protocol.specs.Detection.{Scan, detectAll1}
+use Rattle.protocol.specs.Detection.{Scan, detectAllG}
 use Rattle.protocol.specs.Calls.{frameOf}
 use Rattle.protocol.specs.Session.{Adversary, Setting, hears, at}
 use Rattle.protocol.specs.Lists.{keeper, Sound}
@@ -126,9 +126,9 @@ module _ (s : Setting) (a : Adversary) (sound : Sound s) where
     abbrev pub stored-cells : List ℕ
     stored-cells = filled rec rec-good refl (told s a i j) (at s a j i .cells) (st .room)
 
-    -- The list and the cells after rule FD1.
+    -- The list and the cells after rule G.
     abbrev pub scanned : Scan
-    scanned = detectAll1 plan i (stepRun plan (suc j)) (stepRound plan (suc j)) (inner plan i (stepRound plan (suc j) .0 - 1)) (record { detected = at s a j i .rec .detected; cells = stored-cells })
+    scanned = detectAllG plan i (stepRun plan (suc j)) (stepRound plan (suc j)) (inner plan i (stepRound plan (suc j) .0 - 1)) (record { detected = at s a j i .rec .detected; cells = stored-cells })
 
     -- What board i has of a healthy board q, or of itself, is that board's cell.
     pub stored-healthy : (q e : ℕ) (α : Label) → keeper s q ≡ true → member q (at s a j i .rec .detected) ≡ false → stepRound plan (suc j) .0 ≡ suc (suc e)

@@ -25,7 +25,7 @@ use Rattle.tree.specs.Cells.{blank, cellAt, store}
 use Rattle.plan.specs.Values.{default, value}
 use Rattle.protocol.specs.Nodes.{read, filter, internal, nodes, inner, carried, sent, due, frame}
 use Rattle.protocol.specs.Listing.{join}
-use Rattle.protocol.specs.Detection.{vote, tabulate, resolve, resolveRoot, explained, byCell, byResolving, passes, maskBoard, detect1, detectAll1, detect2, detectAll2, detectLevels}
+use Rattle.protocol.specs.Detection.{vote, tabulate, resolve, resolveRoot, explained, byCell, byResolving, passes, maskBoard, detectG, detectAllG, detectC, detectAllC, detectLevels}
 use Rattle.protocol.specs.Records.{runEnded}
 use Rattle.protocol.specs.Rounds.{fill, counted, receive, fillMissing, copyOwn, gather, rootOnly, nextRound, convert, close}
 use Rattle.protocol.specs.Calls.{isTaken, judgeBoard, judgeCells, goodMarks, goodDecision, goodRecord, judgeRecord, judgeOpen, freshRecord, voidRecord, judgeBeginning, beginning, dealing, judgeReceiving, taking, receiving, frameOf, wireOf, judgeSending, sending, closedValues, closing, deciding}
@@ -63,7 +63,7 @@ pub record Computed : Type 0 where
   pub cells2 : state exampleSetting exampleCalls 2 .cells ≡ (5 ∷ replicate 15 255) ++ (7 ∷ [])
 
 pub computed : Computed
-unfolding encode decode numberAt first any count member union insert within boards setOf size holder isSome tolerated strays covers thirdPlace secondPlace firstPlace covered listed largest height isCut rounds runs firstRound hasRound covering admitting andThen isDepth judgeSettings planning planOn judged occurs mask last levelSize levelStart cellCount ordinal rank place blank cellAt store default value read filter internal nodes inner carried sent due frame only same vote tabulate resolve resolveRoot explained byCell byResolving join passes maskBoard detect1 detectAll1 detect2 detectAll2 detectLevels fill counted receive fillMissing copyOwn gather rootOnly nextRound convert runEnded close isTaken judgeBoard judgeCells goodMarks goodDecision goodRecord judgeRecord judgeOpen freshRecord voidRecord judgeBeginning beginning dealing judgeReceiving taking receiving frameOf wireOf judgeSending sending closedValues closing deciding begun answers after caller keeper leaves state step sameList exampleSetting exampleAhead exampleRest exampleCalls said everywhere somewhere alike writes hands truthful lacks fairCall fairCheck carriesCall carriesCheck exampleAnswers
+unfolding encode decode numberAt first any count member union insert within boards setOf size holder isSome tolerated strays covers thirdPlace secondPlace firstPlace covered listed largest height isCut rounds runs firstRound hasRound covering admitting andThen isDepth judgeSettings planning planOn judged occurs mask last levelSize levelStart cellCount ordinal rank place blank cellAt store default value read filter internal nodes inner carried sent due frame only same vote tabulate resolve resolveRoot explained byCell byResolving join passes maskBoard detectG detectAllG detectC detectAllC detectLevels fill counted receive fillMissing copyOwn gather rootOnly nextRound convert runEnded close isTaken judgeBoard judgeCells goodMarks goodDecision goodRecord judgeRecord judgeOpen freshRecord voidRecord judgeBeginning beginning dealing judgeReceiving taking receiving frameOf wireOf judgeSending sending closedValues closing deciding begun answers after caller keeper leaves state step sameList exampleSetting exampleAhead exampleRest exampleCalls said everywhere somewhere alike writes hands truthful lacks fairCall fairCheck carriesCall carriesCheck exampleAnswers
 computed = record {
   accepted = refl;
   tolerable = refl;

@@ -1,4 +1,4 @@
--- Rule FD1 over the nodes of a level: lists grow, a cell that changes is masked, a board that is not listed in the end was spared at
+-- Rule G over the nodes of a level: lists grow, a cell that changes is masked, a board that is not listed in the end was spared at
 -- each of its nodes, and no healthy board is listed.
 -- Assumes nothing.
 use Prim.Native.Nat.{ℕ, zero, suc, _-_, _≤_, _<_}
@@ -31,10 +31,10 @@ use Rattle.plan.specs.Values.{default, value}
 use Rattle.protocol.specs.Nodes.{read, nodes, inner}
 use Rattle.protocol.specs.declared.records.Rule.the-variants as Rule
 use Rattle.protocol.specs.Listing.{join}
-use Rattle.protocol.specs.Detection.{explained, byCell, passes, Scan, maskBoard, detect1, detectAll1}
+use Rattle.protocol.specs.Detection.{explained, byCell, passes, Scan, maskBoard, detectG, detectAllG}
 use Rattle.protocol.proofs.Nodes.{no-node, inner-inv, node-label, node-has}
 use Rattle.protocol.proofs.Fill.{IsLabel, label-dec, value-default}
-use Rattle.protocol.proofs.Local.{detect1-length}
+use Rattle.protocol.proofs.Local.{detectG-length}
 use Rattle.protocol.proofs.Listing.{listOf, join-has, join-keeps, join-inv}
 use Rattle.protocol.proofs.Instance.{tol, tol-mono, inst}
 
@@ -72,28 +72,28 @@ module _ (p : Plan) (l : p .dealer < p .n) (i : ℕ) where
 module _ (p : Plan) (l : p .dealer < p .n) (i : ℕ) (run : Run) (round : Round) where
   -- One node.
   module _ (k : ℕ) (α : Label) (w : List·Memᴰ α (inner p i k)) where
-    pub detect1-kept : (s : Scan) → passes p α (byCell p (s .cells) α) (s .detected) ≡ true → detect1 p i run round α s ≡ s
-    unfolding detect1
-    detect1-kept s e = rw e
+    pub detectG-kept : (s : Scan) → passes p α (byCell p (s .cells) α) (s .detected) ≡ true → detectG p i run round α s ≡ s
+    unfolding detectG
+    detectG-kept s e = rw e
 
-    pub detect1-joined : (s : Scan) → passes p α (byCell p (s .cells) α) (s .detected) ≡ false
-        → detect1 p i run round α s ≡ record { detected = join (last α) run round Rule.G (length α) (s .detected); cells = maskBoard p (last α) (nodes p i (suc (length α))) (s .cells) }
-    unfolding detect1
-    detect1-joined s e = rw e
+    pub detectG-joined : (s : Scan) → passes p α (byCell p (s .cells) α) (s .detected) ≡ false
+        → detectG p i run round α s ≡ record { detected = join (last α) run round Rule.G (length α) (s .detected); cells = maskBoard p (last α) (nodes p i (suc (length α))) (s .cells) }
+    unfolding detectG
+    detectG-joined s e = rw e
 
-    pub detect1-grow : (s : Scan) (r : ℕ) → member r (s .detected) ≡ true → member r (detect1 p i run round α s .detected) ≡ true
-    detect1-grow s r h =
+    pub detectG-grow : (s : Scan) (r : ℕ) → member r (s .detected) ≡ true → member r (detectG p i run round α s .detected) ≡ true
+    detectG-grow s r h =
         cases (passes p α (byCell p (s .cells) α) (s .detected))
-        (λ e. rw (detect1-kept s e) h)
-        (λ e. rw (detect1-joined s e) (join-keeps run round Rule.G (length α) (last α) (s .detected) r h))
+        (λ e. rw (detectG-kept s e) h)
+        (λ e. rw (detectG-joined s e) (join-keeps run round Rule.G (length α) (last α) (s .detected) r h))
 
-    pub detect1-cell : (s : Scan) (b : ℕ) (δ : Label) → IsLabel p l b δ → cellCount (p .n) ≤ length (s .cells)
-        → (read p (detect1 p i run round α s .cells) δ ≡ read p (s .cells) δ) ⊎ ((read p (detect1 p i run round α s .cells) δ ≡ default p) × (member (last δ) (detect1 p i run round α s .detected) ≡ true))
+    pub detectG-cell : (s : Scan) (b : ℕ) (δ : Label) → IsLabel p l b δ → cellCount (p .n) ≤ length (s .cells)
+        → (read p (detectG p i run round α s .cells) δ ≡ read p (s .cells) δ) ⊎ ((read p (detectG p i run round α s .cells) δ ≡ default p) × (member (last δ) (detectG p i run round α s .detected) ≡ true))
     unfolding read
-    detect1-cell s b δ m room =
+    detectG-cell s b δ m room =
         cases (passes p α (byCell p (s .cells) α) (s .detected))
-        (λ e. inl (rw (detect1-kept s e)))
-        (λ e. rw (detect1-joined s e)
+        (λ e. inl (rw (detectG-kept s e)))
+        (λ e. rw (detectG-joined s e)
         (⊎-elim
         (λ q. inl (ap (value p) q))
         (λ q. inr (ap (value p) (q .0) ∙ value-default p, rw (q .1) (join-has run round Rule.G (length α) (last α) (s .detected))))
@@ -103,34 +103,34 @@ module _ (p : Plan) (l : p .dealer < p .n) (i : ℕ) (run : Run) (round : Round)
   Level k αs = (α : Label) → List·Memᴰ α αs → List·Memᴰ α (inner p i k)
 
   module _ (k : ℕ) where
-    pub scan-grow : (αs : List Label) (s : Scan) (r : ℕ) → Level k αs → member r (s .detected) ≡ true → member r (detectAll1 p i run round αs s .detected) ≡ true
-    unfolding detectAll1
+    pub scan-grow : (αs : List Label) (s : Scan) (r : ℕ) → Level k αs → member r (s .detected) ≡ true → member r (detectAllG p i run round αs s .detected) ≡ true
+    unfolding detectAllG
     scan-grow [] s r h t = t
     scan-grow (α ∷ αs) s r h t =
-        scan-grow αs (detect1 p i run round α s) r (λ β w. h β (List·Memᴰ·tail w)) (detect1-grow k α (h α (List·Memᴰ·head refl)) s r t)
+        scan-grow αs (detectG p i run round α s) r (λ β w. h β (List·Memᴰ·tail w)) (detectG-grow k α (h α (List·Memᴰ·head refl)) s r t)
 
-    same-length : (α : Label) → List·Memᴰ α (inner p i k) → (s : Scan) → length (detect1 p i run round α s .cells) ≡ length (s .cells)
+    same-length : (α : Label) → List·Memᴰ α (inner p i k) → (s : Scan) → length (detectG p i run round α s .cells) ≡ length (s .cells)
     same-length α w s =
         let z : suc k - 1 ≡ k = omega arith in
-        detect1-length p l i run round (suc k) α (subst (λ x. List·Memᴰ α (inner p i x)) (sym z) w) (omega arith) s
+        detectG-length p l i run round (suc k) α (subst (λ x. List·Memᴰ α (inner p i x)) (sym z) w) (omega arith) s
 
     -- What a scan does to a cell: nothing, or it is masked.
     abbrev pub Kept : Scan → Scan → Label → Type 0
     Kept s e δ = (read p (e .cells) δ ≡ read p (s .cells) δ) ⊎ ((read p (e .cells) δ ≡ default p) × (member (last δ) (e .detected) ≡ true))
 
     pub scan-cell : (αs : List Label) (s : Scan) (b : ℕ) (δ : Label) → Level k αs → IsLabel p l b δ → cellCount (p .n) ≤ length (s .cells)
-        → Kept s (detectAll1 p i run round αs s) δ
-    unfolding detectAll1
+        → Kept s (detectAllG p i run round αs s) δ
+    unfolding detectAllG
     scan-cell [] s b δ h m room = inl refl
     scan-cell (α ∷ αs) s b δ h m room =
         let here = h α (List·Memᴰ·head refl) in
         let rest : Level k αs = λ β w. h β (List·Memᴰ·tail w) in
-        let s′ = detect1 p i run round α s in
+        let s′ = detectG p i run round α s in
         ⊎-elim
         (λ q. ⊎-elim
         (λ x. inl (q ∙ x))
         (λ x. inr (q ∙ x .0, scan-grow αs s′ (last δ) rest (x .1)))
-        (detect1-cell k α here s b δ m room))
+        (detectG-cell k α here s b δ m room))
         inr
         (scan-cell αs s′ b δ rest m (rw (same-length α here s) room))
 
@@ -139,23 +139,23 @@ module _ (p : Plan) (l : p .dealer < p .n) (i : ℕ) (run : Run) (round : Round)
     SparedBy e α = (v : ℕ) × (v < p .span) × (tol p (λ c. not (member c (e .detected)) && T.others α (byCell p (e .cells) α) v c) ≡ true)
 
     spared-here : (α : Label) (αs : List Label) (s : Scan) → List·Memᴰ α (inner p i k) → Level k αs → cellCount (p .n) ≤ length (s .cells)
-        → member (last α) (detectAll1 p i run round αs (detect1 p i run round α s) .detected) ≡ false → SparedBy (detectAll1 p i run round αs (detect1 p i run round α s)) α
+        → member (last α) (detectAllG p i run round αs (detectG p i run round α s) .detected) ≡ false → SparedBy (detectAllG p i run round αs (detectG p i run round α s)) α
     unfolding passes explained byCell last tol
     spared-here α αs s w h room u =
         cases (passes p α (byCell p (s .cells) α) (s .detected))
-        (λ e. let kept = detect1-kept k α w s e in
-        let u′ : member (last α) (detectAll1 p i run round αs s .detected) ≡ false = subst (λ x. member (last α) (detectAll1 p i run round αs x .detected) ≡ false) kept u in
+        (λ e. let kept = detectG-kept k α w s e in
+        let u′ : member (last α) (detectAllG p i run round αs s .detected) ≡ false = subst (λ x. member (last α) (detectAllG p i run round αs x .detected) ≡ false) kept u in
         let new : member (last α) (s .detected) ≡ false = is-false (member (last α) (s .detected)) (λ t. clash (scan-grow αs s (last α) h t) u′) in
         let why : explained p α (byCell p (s .cells) α) (s .detected) ≡ true =
         ⊎-elim (λ t. clash t new) (λ t. t) (or-true (member (last α) (s .detected)) (explained p α (byCell p (s .cells) α) (s .detected)) e) in
         let (v, lv, t) = any-true (λ v. tolerated (listed p) (setOf (λ c. (not (occurs c α) && not (same (byCell p (s .cells) α c) (some v))) || member c (s .detected)) (p .n))) (p .span) why in
-        subst (λ x. SparedBy (detectAll1 p i run round αs x) α) (sym kept) (
+        subst (λ x. SparedBy (detectAllG p i run round αs x) α) (sym kept) (
           v,
           lv,
-          tol-mono p (λ c. not (member c (detectAll1 p i run round αs s .detected)) && T.others α (byCell p (detectAll1 p i run round αs s .cells) α) v c)
+          tol-mono p (λ c. not (member c (detectAllG p i run round αs s .detected)) && T.others α (byCell p (detectAllG p i run round αs s .cells) α) v c)
               (λ c. (not (occurs c α) && not (same (byCell p (s .cells) α c) (some v))) || member c (s .detected))
               (λ c lc z.
-              let e′ = detectAll1 p i run round αs s in
+              let e′ = detectAllG p i run round αs s in
               let out = not-t (member c (e′ .detected)) (and-l (not (member c (e′ .detected))) (T.others α (byCell p (e′ .cells) α) v c) z) in
               let oth = and-r (not (member c (e′ .detected))) (T.others α (byCell p (e′ .cells) α) v c) z in
               let a = not-t (occurs c α) (and-l (not (occurs c α)) (not (same (byCell p (e′ .cells) α c) (some v))) oth) in
@@ -165,20 +165,20 @@ module _ (p : Plan) (l : p .dealer < p .n) (i : ℕ) (run : Run) (round : Round)
               (subst (λ x. (not (occurs c α) && not (same (some x) (some v))) ≡ true) cell oth))
               t,
         ))
-        (λ e. let joined = detect1-joined k α w s e in
-        clash (scan-grow αs (detect1 p i run round α s) (last α) h (rw joined (join-has run round Rule.G (length α) (last α) (s .detected)))) u)
+        (λ e. let joined = detectG-joined k α w s e in
+        clash (scan-grow αs (detectG p i run round α s) (last α) h (rw joined (join-has run round Rule.G (length α) (last α) (s .detected)))) u)
 
     pub scan-spared : (αs : List Label) (s : Scan) (α : Label) → Level k αs → List·Memᴰ α αs → cellCount (p .n) ≤ length (s .cells)
-        → member (last α) (detectAll1 p i run round αs s .detected) ≡ false → SparedBy (detectAll1 p i run round αs s) α
-    unfolding detectAll1
+        → member (last α) (detectAllG p i run round αs s .detected) ≡ false → SparedBy (detectAllG p i run round αs s) α
+    unfolding detectAllG
     scan-spared [] s α h m room u = absurd (List·Memᴰ·not-nil m)
     scan-spared (β ∷ αs) s α h m room u =
         let here = h β (List·Memᴰ·head refl) in
         let rest : Level k αs = λ γ w. h γ (List·Memᴰ·tail w) in
         ⊎-elim
-        (λ e. subst (λ x. SparedBy (detectAll1 p i run round αs (detect1 p i run round β s)) x) (sym e)
-        (spared-here β αs s here rest room (subst (λ x. member (last x) (detectAll1 p i run round αs (detect1 p i run round β s) .detected) ≡ false) e u)))
-        (λ m′. scan-spared αs (detect1 p i run round β s) α rest m′ (rw (same-length β here s) room) u)
+        (λ e. subst (λ x. SparedBy (detectAllG p i run round αs (detectG p i run round β s)) x) (sym e)
+        (spared-here β αs s here rest room (subst (λ x. member (last x) (detectAllG p i run round αs (detectG p i run round β s) .detected) ≡ false) e u)))
+        (λ m′. scan-spared αs (detectG p i run round β s) α rest m′ (rw (same-length β here s) room) u)
         (List·Memᴰ·cases-cons m)
 
     -- No healthy board is listed where the healthy children of each node of a healthy board have one value.
@@ -190,11 +190,11 @@ module _ (p : Plan) (l : p .dealer < p .n) (i : ℕ) (run : Run) (round : Round)
       abbrev pub Sound : Scan → Type 0
       Sound s = T.Sub (p .n) (listOf (s .detected)) (listOf F)
 
-      detect1-sound : (α : Label) (s : Scan) {j : ℕ} → T.Node (inst p) i j α → List·Memᴰ α (inner p i k) → Minds s α → Sound s → Sound (detect1 p i run round α s)
+      detectG-sound : (α : Label) (s : Scan) {j : ℕ} → T.Node (inst p) i j α → List·Memᴰ α (inner p i k) → Minds s α → Sound s → Sound (detectG p i run round α s)
       unfolding passes byCell
-      detect1-sound α s N w mind sound q lq t =
+      detectG-sound α s N w mind sound q lq t =
           cases (passes p α (byCell p (s .cells) α) (s .detected))
-          (λ e. sound q lq (subst (λ x. member q (x .detected) ≡ true) (detect1-kept k α w s e) t))
+          (λ e. sound q lq (subst (λ x. member q (x .detected) ≡ true) (detectG-kept k α w s e) t))
           (λ e. ⊎-elim
           (λ x. is-true (member q F) (λ out.
           let (v, lv, same-value) = mind (subst (λ z. member z F ≡ false) x out) in
@@ -202,16 +202,16 @@ module _ (p : Plan) (l : p .dealer < p .n) (i : ℕ) (run : Run) (round : Round)
           ∙ spared G v (byCell p (s .cells) α) (listOf (s .detected)) N lv (λ c C a. ap some (same-value c C a)) sound)
           (or-r (member (last α) (s .detected)) (explained p α (byCell p (s .cells) α) (s .detected)) e)))
           (sound q lq)
-          (join-inv run round Rule.G (length α) (last α) (s .detected) q (subst (λ x. member q (x .detected) ≡ true) (detect1-joined k α w s e) t)))
+          (join-inv run round Rule.G (length α) (last α) (s .detected) q (subst (λ x. member q (x .detected) ≡ true) (detectG-joined k α w s e) t)))
 
       pub scan-sound : (αs : List Label) (s : Scan) {j : ℕ} → ((α : Label) → List·Memᴰ α αs → T.Node (inst p) i j α) → Level k αs
-          → cellCount (p .n) ≤ length (s .cells) → ((α : Label) → List·Memᴰ α αs → Minds s α) → Sound s → Sound (detectAll1 p i run round αs s)
-      unfolding detectAll1 last
+          → cellCount (p .n) ≤ length (s .cells) → ((α : Label) → List·Memᴰ α αs → Minds s α) → Sound s → Sound (detectAllG p i run round αs s)
+      unfolding detectAllG last
       scan-sound [] s N h room minds sound = sound
       scan-sound (α ∷ αs) s N h room minds sound =
           let here = h α (List·Memᴰ·head refl) in
-          let s′ = detect1 p i run round α s in
-          let sound′ : Sound s′ = detect1-sound α s (N α (List·Memᴰ·head refl)) here (minds α (List·Memᴰ·head refl)) sound in
+          let s′ = detectG p i run round α s in
+          let sound′ : Sound s′ = detectG-sound α s (N α (List·Memᴰ·head refl)) here (minds α (List·Memᴰ·head refl)) sound in
           scan-sound αs s′ (λ β w. N β (List·Memᴰ·tail w)) (λ β w. h β (List·Memᴰ·tail w)) (rw (same-length α here s) room)
           (λ β w out. let (v, lv, u) = minds β (List·Memᴰ·tail w) out in (
             v,
@@ -219,6 +219,6 @@ module _ (p : Plan) (l : p .dealer < p .n) (i : ℕ) (run : Run) (round : Round)
             λ c C a. ⊎-elim
                 (λ x. x ∙ u c C a)
                 (λ x. clash (sound′ c (C .below) (x .1)) (C .correct))
-                (detect1-cell k α here s (suc k) (c ∷ β) (child-label p l i k β (h β (List·Memᴰ·tail w)) c (C .below) a) room),
+                (detectG-cell k α here s (suc k) (c ∷ β) (child-label p l i k β (h β (List·Memᴰ·tail w)) c (C .below) a) room),
           ))
           sound′

@@ -1,4 +1,4 @@
--- A round of a board that hears some frames: what its cells hold when rule FD1 begins.
+-- A round of a board that hears some frames: what its cells hold when rule G begins.
 -- Assumes nothing.
 use Prim.Native.Nat.{ℕ, zero, suc, _≤_, _<_, _^_}
 use mathlib.Core.Path.{_≡_, refl, sym, _∙_, ap, subst}

@@ -18,7 +18,7 @@ use Rattle.tree.proofs.Cells.{store-length, store-other}
 use Rattle.protocol.specs.declared.records.Record.{Record}
 use Rattle.plan.specs.Values.{default}
 use Rattle.protocol.specs.Nodes.{nodes, inner, sent, due, frame}
-use Rattle.protocol.specs.Detection.{Scan, maskBoard, byCell, passes, detect1, detectAll1}
+use Rattle.protocol.specs.Detection.{Scan, maskBoard, byCell, passes, detectG, detectAllG}
 use Rattle.protocol.specs.Rounds.{boardWith, fill, fillMissing, copyOwn, gather}
 use Rattle.protocol.proofs.Nodes.{inner-inv, node-label, node-length, sent-node}
 use Rattle.protocol.proofs.Fill.{IsLabel, fill-length, fill-other}
@@ -58,40 +58,40 @@ module _ (p : Plan) (l : p .dealer < p .n) (i : ℕ) where
       ∙ store-other (p .n) (p .dealer) k b cells γ δ (default p) l (node-label p i k γ here) m (λ z. out (subst (λ x. List·Memᴰ x (nodes p i k)) (sym z) here))))
       (λ e. rw e (rest b δ m out))
 
-  -- One node of rule FD1, of level k - 1.
+  -- One node of rule G, of level k - 1.
   module _ (run : Run) (round : Round) (k : ℕ) (α : Label) (m : List·Memᴰ α (inner p i (k - 1))) (low : 1 ≤ k) where
     next-level : suc (length α) ≡ k
     next-level = omega (arith, node-length p i (k - 1) α (inner-inv p i (k - 1) α m .0))
 
-    pub detect1-outside : (s : Scan) → SameOutside k (s .cells) (detect1 p i run round α s .cells)
-    unfolding detect1
-    detect1-outside s b γ w out =
+    pub detectG-outside : (s : Scan) → SameOutside k (s .cells) (detectG p i run round α s .cells)
+    unfolding detectG
+    detectG-outside s b γ w out =
         cases (passes p α (byCell p (s .cells) α) (s .detected))
         (λ e. rw e)
         (λ e. rw e (mask-outside (last α) k (nodes p i (suc (length α))) (s .cells) (λ x h. subst (λ z. List·Memᴰ x (nodes p i z)) next-level h) b γ w out))
 
-    pub detect1-length : (s : Scan) → length (detect1 p i run round α s .cells) ≡ length (s .cells)
-    unfolding detect1
-    detect1-length s =
+    pub detectG-length : (s : Scan) → length (detectG p i run round α s .cells) ≡ length (s .cells)
+    unfolding detectG
+    detectG-length s =
         cases (passes p α (byCell p (s .cells) α) (s .detected))
         (λ e. rw e)
         (λ e. rw e (mask-length (last α) (nodes p i (suc (length α))) (s .cells)))
 
-  -- All of rule FD1.
+  -- All of rule G.
   pub detect-outside : (run : Run) (round : Round) (k : ℕ) (αs : List Label) (s : Scan) → ((α : Label) → List·Memᴰ α αs → List·Memᴰ α (inner p i (k - 1))) → 1 ≤ k
-      → SameOutside k (s .cells) (detectAll1 p i run round αs s .cells)
-  unfolding detectAll1
+      → SameOutside k (s .cells) (detectAllG p i run round αs s .cells)
+  unfolding detectAllG
   detect-outside run round k [] s h low b γ m out = refl
   detect-outside run round k (α ∷ αs) s h low b γ m out =
-      detect-outside run round k αs (detect1 p i run round α s) (λ β w. h β (List·Memᴰ·tail w)) low b γ m out
-      ∙ detect1-outside run round k α (h α (List·Memᴰ·head refl)) low s b γ m out
+      detect-outside run round k αs (detectG p i run round α s) (λ β w. h β (List·Memᴰ·tail w)) low b γ m out
+      ∙ detectG-outside run round k α (h α (List·Memᴰ·head refl)) low s b γ m out
 
   pub detect-length : (run : Run) (round : Round) (k : ℕ) (αs : List Label) (s : Scan) → ((α : Label) → List·Memᴰ α αs → List·Memᴰ α (inner p i (k - 1))) → 1 ≤ k
-      → length (detectAll1 p i run round αs s .cells) ≡ length (s .cells)
-  unfolding detectAll1
+      → length (detectAllG p i run round αs s .cells) ≡ length (s .cells)
+  unfolding detectAllG
   detect-length run round k [] s h low = refl
   detect-length run round k (α ∷ αs) s h low =
-      detect-length run round k αs (detect1 p i run round α s) (λ β w. h β (List·Memᴰ·tail w)) low ∙ detect1-length run round k α (h α (List·Memᴰ·head refl)) low s
+      detect-length run round k αs (detectG p i run round α s) (λ β w. h β (List·Memᴰ·tail w)) low ∙ detectG-length run round k α (h α (List·Memᴰ·head refl)) low s
 
 -- A whole round of a board whose number is below n.
 module _ (r : Record) (l : r .plan .dealer < r .plan .n) (low : 1 ≤ r .round .0) (below : r .board < r .plan .n) where

@@ -43,7 +43,7 @@ module _ (s : Setting) (a : Adversary) (sound : Sound s) where
   abbrev R : ℕ
   R = rounds plan .0
 
-  -- The list and the cells of board i in step j, after rule FD1.
+  -- The list and the cells of board i in step j, after rule G.
   abbrev pub scan : ℕ → ℕ → Scan
   scan j i = gather (takeAll (told s a i j) (at s a j i) (plan .n))
 
@@ -51,7 +51,7 @@ module _ (s : Setting) (a : Adversary) (sound : Sound s) where
     is-scanned : scan j i ≡ scanned s a sound j i ki l
     is-scanned = scan-is s a sound j l (inv s a sound j l) i ki
 
-    -- Rule FD1 only adds to the list.
+    -- Rule G only adds to the list.
     pub scan-more : (r : ℕ) → member r (at s a j i .rec .detected) ≡ true → member r (scan j i .detected) ≡ true
     scan-more r t =
         subst (λ x. member r (x .detected) ≡ true) (sym is-scanned)
@@ -166,12 +166,12 @@ module _ (s : Setting) (a : Adversary) (sound : Sound s) where
         ap (λ x. read plan (scan x i .cells) (r ∷ α)) (sym back)
         ∙ run-keeps i ki (R - suc (suc e)) j (omega arith) (omega arith) ld (suc (suc e)) (r ∷ α) label (omega arith) ∙ here
 
-    -- What rule FD1 leaves of a board that is not listed.
-    pub spared-fd1 : (e : ℕ) (β : Label) → List·Memᴰ β (inner plan i (suc e)) → suc (suc e) ≤ R → member (last β) (scan jE i .detected) ≡ false
+    -- What rule G leaves of a board that is not listed.
+    pub spared-g : (e : ℕ) (β : Label) → List·Memᴰ β (inner plan i (suc e)) → suc (suc e) ≤ R → member (last β) (scan jE i .detected) ≡ false
         → (v : ℕ) × (v < plan .span)
         × (tol plan (λ c. not (member c (scan jE i .detected)) && T.others β (λ q. some (read plan (scan jE i .cells) (q ∷ β))) v c) ≡ true)
     unfolding byCell
-    spared-fd1 e β m high u =
+    spared-g e β m high u =
         let (j, back, ek) = round-step (suc (suc e)) (omega arith) high in
         let lj : j < steps plan = omega arith in
         let I = inv s a sound j lj in
@@ -201,12 +201,12 @@ module _ (s : Setting) (a : Adversary) (sound : Sound s) where
               t,
         )
 
-    -- And what rule FD2 leaves of one.
-    pub spared-fd2 : (e k : ℕ) (β : Label) → List·Memᴰ β (inner plan i (suc e)) → suc (suc e) + k ≡ R → length β ≡ suc e → member (last β) (at s a (suc jE) i .rec .detected) ≡ false
+    -- And what rule C leaves of one.
+    pub spared-c : (e k : ℕ) (β : Label) → List·Memᴰ β (inner plan i (suc e)) → suc (suc e) + k ≡ R → length β ≡ suc e → member (last β) (at s a (suc jE) i .rec .detected) ≡ false
         → (v : ℕ) × (v < plan .span)
         × (tol plan (λ c. T.others β (λ q. T.resolve (inst plan) i (read plan (scan jE i .cells)) k (q ∷ β)) v c || member c (scan jE i .detected)) ≡ true)
     unfolding byResolving
-    spared-fd2 e k β m eq size u =
+    spared-c e k β m eq size u =
         let cells = scan jE i .cells in
         let (v, lv, t) = levels-spared plan i (stepRun plan (suc jE)) (stepRound plan (suc jE)) cells (R - 1) (scan jE i .detected) (suc e) β (omega arith) (omega arith) m
         (subst (λ x. member (last β) x ≡ false) (ended-board jE i ki lE (omega arith)) u) in

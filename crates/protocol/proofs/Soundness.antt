@@ -125,7 +125,7 @@ module _ (s : Setting) (a : Adversary) (sound : Sound s) where
         let t = st s a sound j i ki l in
         rw (filled-length (rec s a sound j i ki l) (rec-good s a sound j i ki l) refl (told s a i j) (at s a j i .cells) (t .room)) (t .room)
 
-    -- Rule FD1 lists faulty boards only.
+    -- Rule G lists faulty boards only.
     pub scan-lists : (i : ℕ) (ki : keeper s i ≡ true) → T.Sub (plan .n) (listOf (scanned s a sound j i ki l .detected)) (listOf F)
     scan-lists i ki =
         let k = open-round j - 1 in
@@ -141,7 +141,7 @@ module _ (s : Setting) (a : Adversary) (sound : Sound s) where
         i ki)
         (I .lists i ki)
 
-    -- What rule FD1 leaves of a healthy board's cell.
+    -- What rule G leaves of a healthy board's cell.
     scan-keeps : (i q : ℕ) (ki : keeper s i ≡ true) (b : ℕ) (α : Label) → q < plan .n → member q F ≡ false → IsLabel plan dealer-below b (q ∷ α)
         → read plan (scanned s a sound j i ki l .cells) (q ∷ α) ≡ read plan (stored-cells s a sound j i ki l) (q ∷ α)
     unfolding last
@@ -150,7 +150,7 @@ module _ (s : Setting) (a : Adversary) (sound : Sound s) where
         (scan-cell plan dealer-below i (stepRun plan (suc j)) (stepRound plan (suc j)) (open-round j - 1) (inner plan i (open-round j - 1))
         (record { detected = at s a j i .rec .detected; cells = stored-cells s a sound j i ki l }) b (q ∷ α) (λ _ m. m) w (room i ki))
 
-    -- After rule FD1 a healthy board's child has that board's cell, in this level too.
+    -- After rule G a healthy board's child has that board's cell, in this level too.
     pub scan-deliver : (i q e : ℕ) (α : Label) (ki : keeper s i ≡ true) (kq : keeper s q ≡ true) → List·Memᴰ α (inner plan i (suc e)) → occurs q α ≡ false
         → suc (suc e) ≤ open-round j → read plan (scanned s a sound j i ki l .cells) (q ∷ α) ≡ read plan (scanned s a sound j q kq l .cells) α
     scan-deliver i q e α ki kq m out h =
@@ -182,7 +182,7 @@ module _ (s : Setting) (a : Adversary) (sound : Sound s) where
           ne-eqb i (plan .dealer) ni,
         )
 
-    -- A healthy dealer's value is every root, after rule FD1 too.
+    -- A healthy dealer's value is every root, after rule G too.
     pub scan-root : member (plan .dealer) F ≡ false → (i : ℕ) (ki : keeper s i ≡ true) → read plan (scanned s a sound j i ki l .cells) (plan .dealer ∷ []) ≡ s .word
     scan-root f i ki =
         let (li, fi, ni) = keeper-facts s a sound i ki in
@@ -197,7 +197,7 @@ module _ (s : Setting) (a : Adversary) (sound : Sound s) where
         (λ e ek. scanned-other s a sound j i ki l 1 (plan .dealer ∷ []) root-label (let z : 1 ≢ open-round j = omega arith in z) ∙ I .root (omega arith) f i ki)
         i ki
 
-    -- The cells of all boards after rule FD1.
+    -- The cells of all boards after rule G.
     abbrev pub scan-of : ℕ → Scan
     scan-of i = gather (takeAll (told s a i j) (at s a j i) (plan .n))
 
@@ -252,7 +252,7 @@ module _ (s : Setting) (a : Adversary) (sound : Sound s) where
             λ c kc. ap (cell-of c) x ∙ cell-deliver c r e β kc kr (subst (λ αs. List·Memᴰ β αs) (inner-same plan i c (suc e)) w) r-out (omega arith),
           )
 
-      -- Rule FD2 lists faulty boards only.
+      -- Rule C lists faulty boards only.
       pub convert-lists : (i : ℕ) → keeper s i ≡ true
           → T.Sub (plan .n) (listOf (detectLevels plan i (stepRun plan (suc j)) (stepRound plan (suc j)) (scan-of i .cells) (rounds plan .0 - 1) (scan-of i .detected))) (listOf F)
       unfolding byResolving

@@ -73,29 +73,29 @@ maskBoard p r (γ ∷ γs) cells = maskBoard p r γs (cond (eqb (last γ) r) (st
 
 -- 003: FD1; 01: rule G. At one internal node of board i, in run t and round k: r joins, "and every level-k cell whose node ends in r becomes 0 before
 -- the next node is looked at".
-unfoldable pub detect1 : Plan → ℕ → Run → Round → Label → Scan → Scan
-detect1 p i t k α s =
+unfoldable pub detectG : Plan → ℕ → Run → Round → Label → Scan → Scan
+detectG p i t k α s =
     let joined : Scan = record {
       detected = join (last α) t k Rule.G (length α) (s .detected);
       cells = maskBoard p (last α) (nodes p i (suc (length α))) (s .cells);
     } in
     cond (passes p α (byCell p (s .cells) α) (s .detected)) s joined
 
-unfoldable pub detectAll1 : Plan → ℕ → Run → Round → List Label → Scan → Scan
-detectAll1 p i t k [] s = s
-detectAll1 p i t k (α ∷ αs) s = detectAll1 p i t k αs (detect1 p i t k α s)
+unfoldable pub detectAllG : Plan → ℕ → Run → Round → List Label → Scan → Scan
+detectAllG p i t k [] s = s
+detectAllG p i t k (α ∷ αs) s = detectAllG p i t k αs (detectG p i t k α s)
 
 -- 003: FD2; 01: rule C, "rule G on resolved children, without changing cells". In run t and round k, the last.
-unfoldable pub detect2 : Plan → ℕ → Run → Round → List ℕ → Label → ℕ → ℕ
-detect2 p i t k cells α detected =
+unfoldable pub detectC : Plan → ℕ → Run → Round → List ℕ → Label → ℕ → ℕ
+detectC p i t k cells α detected =
     cond (passes p α (byResolving p i cells α) detected) detected (join (last α) t k Rule.C (length α) detected)
 
-unfoldable pub detectAll2 : Plan → ℕ → Run → Round → List ℕ → List Label → ℕ → ℕ
-detectAll2 p i t k cells [] detected = detected
-detectAll2 p i t k cells (α ∷ αs) detected = detectAll2 p i t k cells αs (detect2 p i t k cells α detected)
+unfoldable pub detectAllC : Plan → ℕ → Run → Round → List ℕ → List Label → ℕ → ℕ
+detectAllC p i t k cells [] detected = detected
+detectAllC p i t k cells (α ∷ αs) detected = detectAllC p i t k cells αs (detectC p i t k cells α detected)
 
 -- 01: "over levels R − 1 down to 1, each in cell order": the level given and those below it.
 unfoldable pub detectLevels : Plan → ℕ → Run → Round → List ℕ → ℕ → ℕ → ℕ
 detectLevels p i t k cells zero detected = detected
 detectLevels p i t k cells (suc level) detected =
-    detectLevels p i t k cells level (detectAll2 p i t k cells (inner p i (suc level)) detected)
+    detectLevels p i t k cells level (detectAllC p i t k cells (inner p i (suc level)) detected)

@@ -16,7 +16,7 @@ use Rattle.plan.specs.Values.{default, value}
 use Rattle.protocol.specs.Listing.{asSet}
 use Rattle.protocol.specs.Records.{marked, advanced, runEnded}
 use Rattle.protocol.specs.Nodes.{inner, sent, due, frame}
-use Rattle.protocol.specs.Detection.{Scan, detectAll1, resolveRoot, detectLevels}
+use Rattle.protocol.specs.Detection.{Scan, detectAllG, resolveRoot, detectLevels}
 
 -- A board: its record and its cells.
 pub record Board : Type 0 where
@@ -66,7 +66,7 @@ gather b =
     let p = r .plan in
     let i = r .board in
     let k = r .round in
-    detectAll1 p i (r .run) k (inner p i (k .0 - 1))
+    detectAllG p i (r .run) k (inner p i (k .0 - 1))
     (record { detected = r .detected; cells = copyOwn p i k (fillMissing p i k (r .taken) (p .n) (b .cells)) })
 
 -- 01: "The resolved root becomes the root cell, all other cells FF". Surplus cells stay.

@@ -9,7 +9,7 @@ use refusals::refusal::Verdict;
 use schedule::rounds::Round;
 use schedule::rounds::Run;
 use schedule::rounds::has_round;
-use sets::boards::has;
+use sets::boards::member;
 use text::head::Head;
 use text::head::head_of;
 use text::head::judge_head;
@@ -67,10 +67,10 @@ fn is_good_frame(plan: Plan, faulty: u8, least: usize, line: &[u8]) -> bool
     if key_of(line) < least {
         return false;
     }
-    if !has(faulty, sender) {
+    if !member(faulty, sender) {
         return false;
     }
-    if has(faulty, receiver) {
+    if member(faulty, receiver) {
         return false;
     }
     is_expected(plan, run, round, sender, receiver)

@@ -6,7 +6,7 @@ use protocol::limits::VALUES;
 use refusals::refusal::Refusal;
 use refusals::refusal::Verdict;
 use schedule::rounds::Round;
-use sets::boards::has;
+use sets::boards::member;
 use walk::nodes::carried_nodes;
 ghost use Prim.Native.Nat.{_≤_, _<_};
 ghost use lib.ListN.{length};
@@ -41,7 +41,7 @@ pub fn take_later(
     if count == 0 {
         return Verdict::Refused(Refusal::NotDue);
     }
-    if has(taken, q) {
+    if member(taken, q) {
         return Verdict::Refused(Refusal::AlreadyTaken);
     }
     store_frame(plan, level, q, detected, &nodes[0..count], frame, cells);

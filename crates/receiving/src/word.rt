@@ -6,7 +6,7 @@ use listing::listing::as_set;
 use plan::plan::Plan;
 use refusals::refusal::Refusal;
 use refusals::refusal::Verdict;
-use sets::boards::has;
+use sets::boards::member;
 ghost use mathlib.Core.Path.{_≡_};
 ghost use mathlib.Core.List.{[], _∷_};
 ghost use Prim.Native.Nat.{_≤_, _<_};
@@ -23,7 +23,7 @@ ghost use Rattle.receiving.specs.Taking.{Takes};
 fn word_of(plan: Plan, detected: u8, q: u8, frame: &[u8]) -> Value
     ensures { λ v. ⌜ v ≡ entry plan (counted detected q ([] ∷ []) (decode (now (frame .entry)))) 0 ⌝ }
 {
-    if value_count(frame) == 1 && !has(as_set(detected), q) {
+    if value_count(frame) == 1 && !member(as_set(detected), q) {
         return plan.value(value_at(frame, 0));
     }
     plan.default()
@@ -42,7 +42,7 @@ pub fn take_word(
     ensures { λ v. ⌜ Takes plan q detected taken (eqb q (plan .dealer)) ([] ∷ []) (decode (now (frame .entry))) (now (cells .entry)) (verdict v) (now (cells .exit)) ⌝ }
 {
     let dealer = plan.dealer;
-    let again = has(taken, q);
+    let again = member(taken, q);
     if q != dealer {
         return Verdict::Refused(Refusal::NotDue);
     }

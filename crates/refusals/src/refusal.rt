@@ -61,7 +61,7 @@ pub enum Verdict {
 }
 
 // What is judged first, if it refuses; else the next.
-pub fn first_of(first: Verdict, next: Verdict) -> Verdict
+pub fn and_then(first: Verdict, next: Verdict) -> Verdict
     ensures { λ v. ⌜ verdict v ≡ andThen (verdict first) (verdict next) ⌝ }
 {
     match first {

@@ -1,7 +1,7 @@
 // Resolving in place: a node leaves what it resolves to in its own cell, children before their node.
 use codec::value::Value;
 use plan::plan::Plan;
-use sets::boards::has;
+use sets::boards::member;
 use tree::levels::level_size;
 use voting::voting::vote;
 use walk::internal::is_internal;
@@ -63,7 +63,7 @@ fn resolve_node(
     let mut child = index * (n - level) as usize;
     let mut c: u8 = 0;
     while c < n {
-        if !has(boards, c) {
+        if !member(boards, c) {
             values[c as usize] = resolve_node(
                 plan,
                 holders,

@@ -1,8 +1,8 @@
 // Levels, rounds and runs of a plan.
 use plan::listed::slots_used;
 use plan::plan::Plan;
-use sets::boards::has;
-use sets::boards::size_of;
+use sets::boards::member;
+use sets::boards::size;
 ghost use mathlib.Core.Path.{_≡_};
 ghost use Prim.Native.Nat.{_-_, _≤_};
 ghost use mathlib.Core.Bool.{cond};
@@ -19,8 +19,8 @@ pub struct Round(pub u8);
 fn size_with(s: u8, d: u8) -> u8
     ensures { λ r. ⌜ (r ≡ cond (member d s) (size s) 0) × (r ≤ 8) ⌝ }
 {
-    if has(s, d) {
-        return size_of(s);
+    if member(s, d) {
+        return size(s);
     }
     0
 }
@@ -64,7 +64,7 @@ fn depth_of(plan: Plan) -> u8
 }
 
 // The number of levels, H.
-pub fn levels(plan: Plan) -> u8
+pub fn height(plan: Plan) -> u8
     ensures { λ r. ⌜ (r ≡ height plan) × (r ≤ 9) ⌝ }
 {
     let sets = plan.sets;
@@ -73,31 +73,31 @@ pub fn levels(plan: Plan) -> u8
 }
 
 // Is the tree cut?
-pub fn cut(plan: Plan) -> bool
+pub fn is_cut(plan: Plan) -> bool
     ensures { λ r. ⌜ r ≡ isCut plan ⌝ }
 {
     let depth = depth_of(plan);
     if depth == 0 {
         return false;
     }
-    depth < levels(plan)
+    depth < height(plan)
 }
 
 // The last round of every run, R.
-pub fn last_round(plan: Plan) -> Round
+pub fn rounds(plan: Plan) -> Round
     ensures { λ r. ⌜ r ≡ rounds plan ⌝ }
 {
-    if cut(plan) {
+    if is_cut(plan) {
         return Round(depth_of(plan));
     }
-    Round(levels(plan))
+    Round(height(plan))
 }
 
 // The last run, T.
-pub fn last_run(plan: Plan) -> Run
+pub fn runs(plan: Plan) -> Run
     ensures { λ r. ⌜ r ≡ runs plan ⌝ }
 {
-    if cut(plan) {
+    if is_cut(plan) {
         return Run(later_runs(plan.n, depth_of(plan)) + 1);
     }
     Run(1)
@@ -109,9 +109,9 @@ pub fn has_round(plan: Plan, run: Run, round: Round) -> bool
 {
     let t = run.0;
     let k = round.0;
-    let last = last_run(plan);
+    let last = runs(plan);
     let most = last.0;
-    let end = last_round(plan);
+    let end = rounds(plan);
     let top = end.0;
     if t < 1 {
         return false;
@@ -129,12 +129,12 @@ pub fn has_round(plan: Plan, run: Run, round: Round) -> bool
 }
 
 // The rounds over all runs.
-pub fn all_rounds(plan: Plan) -> usize
+pub fn steps(plan: Plan) -> usize
     ensures { λ r. ⌜ r ≡ steps plan ⌝ }
 {
-    let last = last_run(plan);
+    let last = runs(plan);
     let t = last.0 as usize;
-    let end = last_round(plan);
+    let end = rounds(plan);
     let k = end.0 as usize;
     k + (t - 1) * (k - 1)
 }

@@ -4,7 +4,7 @@ ghost use Prim.Native.Nat.{_≤_, min};
 ghost use Rattle.sets.specs.Sets.{member, within, boards, size};
 
 // Is board i in the set s?
-pub fn has(s: u8, i: u8) -> bool
+pub fn member(s: u8, i: u8) -> bool
     ensures { λ r. ⌜ r ≡ member i s ⌝ }
 {
     if 8 <= i {
@@ -14,7 +14,7 @@ pub fn has(s: u8, i: u8) -> bool
 }
 
 // Does a lie within s?
-pub fn subset(a: u8, s: u8) -> bool
+pub fn within(a: u8, s: u8) -> bool
     ensures { λ r. ⌜ r ≡ within a s ⌝ }
 {
     (a & s) == a
@@ -31,13 +31,13 @@ pub fn all_boards(n: u8) -> u8
 }
 
 // How many boards a set has.
-pub fn size_of(s: u8) -> u8
+pub fn size(s: u8) -> u8
     ensures { λ r. ⌜ (r ≡ size s) × (r ≤ 8) ⌝ }
 {
     let mut n = 0;
     let mut i = 0;
     while i < 8 {
-        if has(s, i) {
+        if member(s, i) {
             n += 1;
         }
         i += 1;

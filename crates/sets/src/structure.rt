@@ -1,5 +1,5 @@
 // Adversary structures, given by listed sets.
-use crate::boards::subset;
+use crate::boards::within;
 ghost use mathlib.Core.Path.{_≡_};
 ghost use Rattle.sets.specs.Structure.{place, holder, tolerated};
 
@@ -10,7 +10,7 @@ pub enum Place {
 }
 
 // The first listed set that holds a.
-pub fn holder_of(sets: &[u8], a: u8) -> Place
+pub fn holder(sets: &[u8], a: u8) -> Place
     ensures { λ r. ⌜ place r ≡ holder (now (sets .entry)) a ⌝ }
 {
     if a == 0 {
@@ -18,7 +18,7 @@ pub fn holder_of(sets: &[u8], a: u8) -> Place
     }
     let mut i = 0;
     while i < sets.len() {
-        if subset(a, sets[i]) {
+        if within(a, sets[i]) {
             return Place::At(i);
         }
         i += 1;
@@ -30,7 +30,7 @@ pub fn holder_of(sets: &[u8], a: u8) -> Place
 pub fn is_tolerated(sets: &[u8], a: u8) -> bool
     ensures { λ r. ⌜ r ≡ tolerated (now (sets .entry)) a ⌝ }
 {
-    match holder_of(sets, a) {
+    match holder(sets, a) {
         Place::At(_) => true,
         Place::Nowhere => false,
     }

@@ -7,8 +7,8 @@ use plan::plan::Plan;
 use protocol::records::Record;
 use schedule::rounds::Round;
 use schedule::rounds::Run;
-use schedule::rounds::all_rounds;
-use schedule::rounds::last_round;
+use schedule::rounds::rounds;
+use schedule::rounds::steps;
 use stage::acting::Act;
 use stage::acting::act_all;
 use text::head::Head;
@@ -52,7 +52,7 @@ fn skip_to_step(text: &[u8], from: usize, plan: Plan, j: usize) -> usize
     if j == 0 {
         return skip_to(text, from, Run(1), Round(1));
     }
-    let last = last_round(plan);
+    let last = rounds(plan);
     let later = last.0 as usize - 1;
     let run = Run(((j - 1) / later + 1) as u8);
     let round = Round(((j - 1) % later + 2) as u8);
@@ -65,7 +65,7 @@ pub fn play_rounds(head: Head, text: &[u8], from: usize, cells: &mut [Value]) ->
     ensures { λ r. ⌜ (r ≡ playSteps head (framesFrom (now (text .entry)) from) (steps (head .plan)) (record { recs = replicate 7 voidRecord; cells = now (cells .entry) }) .recs) × (now (cells .exit) ≡ playSteps head (framesFrom (now (text .entry)) from) (steps (head .plan)) (record { recs = replicate 7 voidRecord; cells = now (cells .entry) }) .cells) ⌝ }
 {
     let plan = head.plan;
-    let steps = all_rounds(plan);
+    let steps = steps(plan);
     let mut all = act_all(
         head,
         Act::Begin,

@@ -8,7 +8,7 @@ use plan::plan::Plan;
 use protocol::limits::FRAME;
 use protocol::records::Record;
 use receiving::receiving::receive;
-use sets::boards::has;
+use sets::boards::member;
 use text::head::Head;
 use tree::levels::cell_count;
 ghost use mathlib.Core.Path.{_≡_};
@@ -34,7 +34,7 @@ fn is_keeper(head: Head, i: u8) -> bool
 {
     let faulty = head.faulty;
     let dealer = head.plan.dealer;
-    if has(faulty, i) {
+    if member(faulty, i) {
         return false;
     }
     i != dealer

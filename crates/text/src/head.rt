@@ -12,9 +12,9 @@ use protocol::head::SPAN;
 use protocol::head::WORD;
 use refusals::refusal::Refusal;
 use refusals::refusal::Verdict;
-use refusals::refusal::first_of;
+use refusals::refusal::and_then;
 use sets::boards::all_boards;
-use sets::boards::subset;
+use sets::boards::within;
 use sets::holders::holders_of;
 use sets::holders::holds;
 ghost use mathlib.Core.Path.{_≡_};
@@ -83,7 +83,7 @@ fn judge_faulty(n: u8, sets: &[u8], faulty: u8) -> Verdict
     ensures { λ v. ⌜ verdict v ≡ cond (within faulty (boards (min n 7)) && tolerated (now (sets .entry)) faulty) (taken []) (refused 23) ⌝ }
 {
     let all = all_boards(at_most_seven(n));
-    if !subset(faulty, all) {
+    if !within(faulty, all) {
         return Verdict::Refused(Refusal::BadFaulty);
     }
     let holders = holders_of(sets);
@@ -137,5 +137,5 @@ pub fn judge_head(line: &[u8]) -> Verdict
     let plan = planned.answer;
     let word = judge_word(settings.span, number_at(line, WORD));
     let faulty = judge_faulty(n, &sets[0..count as usize], byte_at(line, last));
-    first_of(plan, first_of(word, faulty))
+    and_then(plan, and_then(word, faulty))
 }

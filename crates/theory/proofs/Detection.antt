@@ -24,7 +24,7 @@ module _ {P : Plan} {F : Boards} (G : Good P F) {cell : Cells} {old mid end : �
       → (resolve P q (cell q) (suc k) (r ∷ α) ≡ some v) ⊎ (resolve P q (cell q) (suc k) (r ∷ α) ≡ none))
   one-value {p} {r} {k} {α} H N ne I u =
       let i = G .inner-faulty H N I in
-      let (v, l, s) = X .fd1 H N i ne u in (
+      let (v, l, s) = X .rule-g H N i ne u in (
         v,
         λ q K M.
             let f : ℕ → Option ℕ = λ c. resolve P q (cell q) k (c ∷ r ∷ α) in
@@ -86,4 +86,4 @@ module _ {P : Plan} {F : Boards} (G : Good P F) {cell : Cells} {old mid end : �
   pub detected-or-common : {p r k : ℕ} {α : Label} → Healthy P F p → Node P p (suc (suc k)) (r ∷ α) → Sub (P .n) (path (r ∷ α)) F → end p r ≡ false
       → (v : ℕ) × Common P F cell (suc (suc k)) (r ∷ α) v
   detected-or-common H N I u =
-      let (v, l, s) = X .fd2 H N (G .inner-faulty H N I) u in (v, λ q K M. follows H K I N M v l s)
+      let (v, l, s) = X .rule-c H N (G .inner-faulty H N I) u in (v, λ q K M. follows H K I N M v l s)

@@ -31,12 +31,12 @@ module _ {P : Plan} {F : Boards} (G : Good P F) where
 
   module _ {cell : Cells} (W : Flow P F cell) {p k v : ℕ} {α : Label} (L : Boards) (H : Healthy P F p) (N : Node P p (suc k) α)
       (i : P .inner p α ≡ true) (h : Held P F cell (suc k) α v) (s : Sub (P .n) L F) where
-    -- So rule FD1 lists no board whose node all hold alike: a healthy board (`heard`), or a healthy dealer.
-    pub spared-fd1 : explained P α (λ c. some (cell p (c ∷ α))) L ≡ true
-    spared-fd1 = spared v (λ c. some (cell p (c ∷ α))) L N (rw (h p H N) at (W .small H N))
+    -- So rule G lists no board whose node all hold alike: a healthy board (`heard`), or a healthy dealer.
+    pub spared-g : explained P α (λ c. some (cell p (c ∷ α))) L ≡ true
+    spared-g = spared v (λ c. some (cell p (c ∷ α))) L N (rw (h p H N) at (W .small H N))
         (λ c C a. ap some (W .deliver H C N i a ∙ h c C (G .inner-kept H C N i a))) s
 
-    -- And nor does rule FD2.
-    pub spared-fd2 : explained P α (λ c. resolve P p (cell p) k (c ∷ α)) L ≡ true
-    spared-fd2 = spared v (λ c. resolve P p (cell p) k (c ∷ α)) L N (rw (h p H N) at (W .small H N))
+    -- And nor does rule C.
+    pub spared-c : explained P α (λ c. resolve P p (cell p) k (c ∷ α)) L ≡ true
+    spared-c = spared v (λ c. resolve P p (cell p) k (c ∷ α)) L N (rw (h p H N) at (W .small H N))
         (λ c C a. healthy-node G W C p H (child N i (C .below) a) ∙ ap some (h c C (G .inner-kept H C N i a))) s

@@ -50,11 +50,11 @@ pub record Run (P : Plan) (F : Boards) (cell : Cells) (old mid end : ℕ → Boa
   pub mid-sound : {p : ℕ} → Healthy P F p → Sub (P .n) (mid p) F
   pub end-sound : {p : ℕ} → Healthy P F p → Sub (P .n) (end p) F
   pub grows : {p : ℕ} → Healthy P F p → Sub (P .n) (old p) (end p)
-  -- A board that rule FD1 did not list: its cells at the boards that are not listed were explained.
-  pub fd1 : {p r k : ℕ} {α : Label} → Healthy P F p → Node P p (suc k) (r ∷ α) → P .inner p (r ∷ α) ≡ true → r ≢ P .dealer → mid p r ≡ false
+  -- A board that rule G did not list: its cells at the boards that are not listed were explained.
+  pub rule-g : {p r k : ℕ} {α : Label} → Healthy P F p → Node P p (suc k) (r ∷ α) → P .inner p (r ∷ α) ≡ true → r ≢ P .dealer → mid p r ≡ false
       → (v : ℕ) × (v < P .m) × (P .tol (λ c. not (mid p c) && others (r ∷ α) (λ q. some (cell p (q ∷ r ∷ α))) v c) ≡ true)
-  -- A board that rule FD2 did not list: its resolved children were explained.
-  pub fd2 : {p r k : ℕ} {α : Label} → Healthy P F p → Node P p (suc k) (r ∷ α) → P .inner p (r ∷ α) ≡ true → end p r ≡ false
+  -- A board that rule C did not list: its resolved children were explained.
+  pub rule-c : {p r k : ℕ} {α : Label} → Healthy P F p → Node P p (suc k) (r ∷ α) → P .inner p (r ∷ α) ≡ true → end p r ≡ false
       → (v : ℕ) × (v < P .m) × (P .tol (λ c. others (r ∷ α) (λ q. resolve P p (cell p) k (q ∷ r ∷ α)) v c || mid p c) ≡ true)
 
 -- The healthy boards that fail a test, and whether all pass.

@@ -10,7 +10,7 @@ pub fn outside_below(s: u8, k: u8) -> u8
     let mut seen: u8 = 0;
     let mut i: u8 = 0;
     while i < k {
-        if !boards::has(s, i) {
+        if !boards::member(s, i) {
             seen += 1;
         }
         i += 1;

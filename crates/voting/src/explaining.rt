@@ -2,7 +2,7 @@
 use crate::values::tolerates;
 use codec::value::Value;
 use plan::plan::Plan;
-use sets::boards::has;
+use sets::boards::member;
 ghost use mathlib.Core.Path.{_≡_};
 ghost use mathlib.Core.Bool.{not, _&&_};
 ghost use Prim.Native.Nat.{_≤_, _<_};
@@ -16,7 +16,7 @@ fn dissents(boards: u8, values: [Value; 8], v: Value, c: u8) -> bool
     requires { ⌜ c < 8 ⌝ }
     ensures { λ r. ⌜ r ≡ (not (member c boards) && not (eqb (at values c) v)) ⌝ }
 {
-    if has(boards, c) {
+    if member(boards, c) {
         return false;
     }
     values[c as usize] != v
@@ -30,7 +30,7 @@ fn dissenting_from(n: u8, boards: u8, values: [Value; 8], v: Value, detected: u8
     let mut s: u8 = 0;
     let mut c: u8 = 0;
     while c < n {
-        if dissents(boards, values, v, c) || has(detected, c) {
+        if dissents(boards, values, v, c) || member(detected, c) {
             s = s | (1 << c);
         }
         c += 1;
@@ -50,7 +50,7 @@ fn explains_all(
     requires { ⌜ Tabled plan (now holders) × (c < plan .n) ⌝ }
     ensures { λ r. ⌜ r ≡ explains plan boards values detected c ⌝ }
 {
-    if has(boards, c) {
+    if member(boards, c) {
         return false;
     }
     let v = values[c as usize];

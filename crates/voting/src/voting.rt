@@ -2,7 +2,7 @@
 use crate::values::tolerates;
 use codec::value::Value;
 use plan::plan::Plan;
-use sets::boards::has;
+use sets::boards::member;
 ghost use mathlib.Core.Path.{_≡_};
 ghost use mathlib.Core.Bool.{not, _&&_};
 ghost use Prim.Native.Nat.{_≤_, _<_};
@@ -19,7 +19,7 @@ fn agreeing_on(n: u8, boards: u8, values: [Value; 8], v: Value) -> u8
     let mut s: u8 = 0;
     let mut c: u8 = 0;
     while c < n {
-        if !has(boards, c) && values[c as usize] == v {
+        if !member(boards, c) && values[c as usize] == v {
             s = s | (1 << c);
         }
         c += 1;
@@ -32,7 +32,7 @@ fn elects(plan: Plan, holders: &[u8], boards: u8, values: [Value; 8], c: u8) -> 
     requires { ⌜ Tabled plan (now holders) × (c < plan .n) ⌝ }
     ensures { λ r. ⌜ r ≡ (not (member c boards) && (ltb (at values c) (plan .span) && elected plan boards values (at values c))) ⌝ }
 {
-    if has(boards, c) {
+    if member(boards, c) {
         return false;
     }
     let v = values[c as usize];

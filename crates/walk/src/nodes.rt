@@ -3,7 +3,7 @@ use crate::internal::barred_to;
 use crate::internal::is_open;
 use crate::node::node_of;
 use plan::plan::Plan;
-use sets::boards::has;
+use sets::boards::member;
 ghost use mathlib.Core.Path.{_≡_};
 ghost use Rattle.protocol.specs.Nodes.{inner, carried};
 ghost use Rattle.walk.specs.Walk.{single, isOpen, walked};
@@ -47,7 +47,7 @@ fn walk(
     let mut at = used;
     let mut c: u8 = 0;
     while c < n {
-        if !has(boards, c) {
+        if !member(boards, c) {
             let below = boards | (1 << c);
             if is_open(holders, without, below) {
                 if left == 1 {

@@ -23,7 +23,7 @@ returns c =
     let sets = s .args .sets .now in
     let e : within (boards n) (unionOf sets (length sets)) ≡ false =
     ap (λ x. within (boards x) (unionOf sets (length sets))) (let z : n ≡ min n 8 = omega (arith, s .pre .most-boards) in z)
-    ∙ sym (c .before .subset .ensures ∙ ap₂ within (c .before .before .all-boards .ensures) (c .before .before .before .union-of .ensures)) ∙ not-t _ (c .if1 .taken) in
+    ∙ sym (c .before .within .ensures ∙ ap₂ within (c .before .before .all-boards .ensures) (c .before .before .before .union-of .ensures)) ∙ not-t _ (c .if1 .taken) in
     rw (uncovered sets n e)
 
 pub judge-cover-spec : {M : Type 1} → statement M

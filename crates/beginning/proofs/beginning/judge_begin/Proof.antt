@@ -12,8 +12,8 @@ returns c =
     let later = c .before .before in
     let first = later .before .before in
     let a = first .before .before .args in
-    c .first-of2 .ensures
-    ∙ ap₂ andThen (first .judge .ensures) (c .before .first-of .ensures ∙ ap₂ andThen (later .before .judge-number .ensures) (later .judge-cells .ensures))
+    c .and-then2 .ensures
+    ∙ ap₂ andThen (first .judge .ensures) (c .before .and-then .ensures ∙ ap₂ andThen (later .before .judge-number .ensures) (later .judge-cells .ensures))
     ∙ begin-judged a.plan a.board (a.cells .now)
 
 pub judge-begin-spec : {M : Type 1} → statement M

@@ -17,7 +17,7 @@ returns c =
     let a = first .before .args in
     let why = c .before .why .given in
     deal-refused a.plan a.value (refusal (why .0 .0))
-    (ap verdict (sym (why .1)) ∙ judged .first-of .ensures ∙ ap₂ andThen (first .judge .ensures) (judged .before .judge-value .ensures)) (refusal-number (why .0 .0))
+    (ap verdict (sym (why .1)) ∙ judged .and-then .ensures ∙ ap₂ andThen (first .judge .ensures) (judged .before .judge-value .ensures)) (refusal-number (why .0 .0))
 
 returns-2 : tie.Need-returns-2
 unfolding dealtSays verdict
@@ -26,7 +26,7 @@ returns-2 c =
     let first = judged .before .before in
     let a = first .before .args in
     deal-taken a.plan a.value
-    (ap verdict (sym (c .enum-told .given .1)) ∙ judged .first-of .ensures ∙ ap₂ andThen (first .judge .ensures) (judged .before .judge-value .ensures))
+    (ap verdict (sym (c .enum-told .given .1)) ∙ judged .and-then .ensures ∙ ap₂ andThen (first .judge .ensures) (judged .before .judge-value .ensures))
 
 pub deal-spec : {M : Type 1} → statement M
 deal-spec =

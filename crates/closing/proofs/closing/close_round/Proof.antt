@@ -26,7 +26,7 @@ next-round-requires c κs =
     let gone = known .before .before in
     let held = gone .before .before .before in
     let e = held .before .before in
-    (e .pre .0, omega (arith, ap (λ (k : Round). k .0) (c .before .last-round .ensures), c .if1 .taken))
+    (e .pre .0, omega (arith, ap (λ (k : Round). k .0) (c .before .rounds .ensures), c .if1 .taken))
 
 returns : tie.Need-returns
 unfolding gather gathered nextRound
@@ -37,7 +37,7 @@ returns c =
     let held = gone .before .before .before in
     let a = held .before .before .args in
     let o : Board = boardWith a.r (a.cells .now) in
-    let e = close-next o (omega (arith, ap (λ (k : Round). k .0) (more .before .last-round .ensures), more .if1 .taken)) in
+    let e = close-next o (omega (arith, ap (λ (k : Round). k .0) (more .before .rounds .ensures), more .if1 .taken)) in
     let g = gone .gather-round .ensures in (
       c .next-round .ensures ∙ ap (advanced a.r) (g .list-is) ∙ sym (ap (λ (x : Board). x .rec) e),
       g .cells-are ∙ sym (ap (λ (x : Board). x .cells) e),
@@ -53,7 +53,7 @@ returns-2 c =
     let held = gone .before .before .before in
     let a = held .before .before .args in
     let o : Board = boardWith a.r (a.cells .now) in
-    let e = close-last o (omega (arith, ap (λ (k : Round). k .0) (last .before .last-round .ensures), last .if1 .left)) in
+    let e = close-last o (omega (arith, ap (λ (k : Round). k .0) (last .before .rounds .ensures), last .if1 .left)) in
     let g = gone .gather-round .ensures in
     let v = made .convert-round .ensures in (
       v .0 ∙ ap₂ (λ d x. convert o (record { detected = d; cells = x }) .rec) (g .list-is) (g .cells-are) ∙ sym (ap (λ (x : Board). x .rec) e),

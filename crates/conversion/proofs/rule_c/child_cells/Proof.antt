@@ -21,7 +21,7 @@ shared-slice-read-values c =
     let x = c .before .before .before in
     let s = x .before .before .before in
     let l = x .before .loop in
-    omega (arith, l .inv .number, s .pre .there l.c (x .loop-test .taken) (sym (c .before .before .has .ensures) ∙ not-t _ (c .before .if1 .taken)))
+    omega (arith, l .inv .number, s .pre .there l.c (x .loop-test .taken) (sym (c .before .before .member .ensures) ∙ not-t _ (c .before .if1 .taken)))
 
 array-write-values : tie.Need-array-write-values Inv-loop μ-loop
 array-write-values c =
@@ -36,8 +36,8 @@ loop-again c =
     let x = c .before .before in
     let f = x .before .loop .inv in
     ⊎-elim
-    (λ w. reads-here f (x .loop-test .taken) (sym (c .before .has .ensures) ∙ not-t _ (w .0 .taken)) (w .3) (w .2))
-    (λ w. reads-skip f (x .loop-test .taken) (sym (c .before .has .ensures) ∙ not-f _ (w .0 .left)) (w .2) (w .1))
+    (λ w. reads-here f (x .loop-test .taken) (sym (c .before .member .ensures) ∙ not-t _ (w .0 .taken)) (w .3) (w .2))
+    (λ w. reads-skip f (x .loop-test .taken) (sym (c .before .member .ensures) ∙ not-f _ (w .0 .left)) (w .2) (w .1))
     (c .if1 .came)
 
 pub child-cells-spec : {M : Type 1} → statement M

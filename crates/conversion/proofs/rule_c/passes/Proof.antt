@@ -17,7 +17,7 @@ returns c =
     let set = x .before in
     let a = set .before .before .before .args in
     let on : member (a.node / 128 % 8) a.list ≡ true =
-    ap₂ member (sym (x .last-of .ensures)) (sym (set .as-set .ensures)) ∙ sym (c .before .has .ensures) ∙ c .if1 .taken in
+    ap₂ member (sym (x .last-of .ensures)) (sym (set .as-set .ensures)) ∙ sym (c .before .member .ensures) ∙ c .if1 .taken in
     passes-listed a.plan (a.cells .now) a.from a.node a.list on
 
 child-cells-requires : tie.Need-child-cells-requires
@@ -35,7 +35,7 @@ returns-2 c =
     let set = asks .before in
     let a = set .before .before .before .args in
     let out : member (a.node / 128 % 8) a.list ≡ false =
-    ap₂ member (sym (asks .last-of .ensures)) (sym (set .as-set .ensures)) ∙ sym (x .has .ensures) ∙ y .before .if1 .left in
+    ap₂ member (sym (asks .last-of .ensures)) (sym (set .as-set .ensures)) ∙ sym (x .member .ensures) ∙ y .before .if1 .left in
     c .explained-by .ensures
     ∙ ap (explainedBy a.plan (y .boards-of .result) (c .before .child-cells .result)) (set .as-set .ensures)
     ∙ passes-explained a.plan (a.cells .now) a.from a.node a.list (y .boards-of .result) (c .before .child-cells .result) out

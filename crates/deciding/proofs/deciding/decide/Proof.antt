@@ -16,7 +16,7 @@ returns c =
     let first = judged .before .before in
     let why = c .before .why .given in
     decide-refused (first .before .args .r) (refusal (why .0 .0))
-    (ap verdict (sym (why .1)) ∙ judged .first-of .ensures ∙ ap₂ andThen (first .judge-record .ensures) (judged .before .judge-undecided .ensures)) (refusal-number (why .0 .0))
+    (ap verdict (sym (why .1)) ∙ judged .and-then .ensures ∙ ap₂ andThen (first .judge-record .ensures) (judged .before .judge-undecided .ensures)) (refusal-number (why .0 .0))
 
 returns-2 : tie.Need-returns-2
 unfolding decisionSays verdict
@@ -24,7 +24,7 @@ returns-2 c =
     let judged = c .before .before in
     let first = judged .before .before in
     decide-taken (first .before .args .r)
-    (ap verdict (sym (c .enum-told .given .1)) ∙ judged .first-of .ensures ∙ ap₂ andThen (first .judge-record .ensures) (judged .before .judge-undecided .ensures))
+    (ap verdict (sym (c .enum-told .given .1)) ∙ judged .and-then .ensures ∙ ap₂ andThen (first .judge-record .ensures) (judged .before .judge-undecided .ensures))
 
 pub decide-spec : {M : Type 1} → statement M
 decide-spec =

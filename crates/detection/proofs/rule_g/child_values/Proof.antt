@@ -31,7 +31,7 @@ shared-slice-read-value : tie.Need-shared-slice-read-value Inv-loop μ-loop
 shared-slice-read-value c =
     let l = c .before .before .before .before .loop in
     let e = c .before .before .before .before .before .before in
-    omega (arith, l .inv .1, e .pre .1 l.c (omega arith) (sym (c .before .before .has .ensures) ∙ not-t _ (c .before .if1 .taken)))
+    omega (arith, l .inv .1, e .pre .1 l.c (omega arith) (sym (c .before .before .member .ensures) ∙ not-t _ (c .before .if1 .taken)))
 
 array-write-values : tie.Need-array-write-values Inv-loop μ-loop
 array-write-values c = let e = c .before .before .before .before .before .before .before in omega (arith, e .pre .0)
@@ -43,7 +43,7 @@ loop-again : tie.Need-loop-again Inv-loop μ-loop
 loop-again c =
     let l = c .before .before .before .loop in
     let a = c .before .before .before .before .before .args in
-    let m = sym (c .before .has .ensures) in
+    let m = sym (c .before .member .ensures) in
     ⊎-elim
     (λ w. (
       omega arith,

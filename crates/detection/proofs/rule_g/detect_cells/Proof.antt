@@ -5,7 +5,7 @@ use mathlib.Core.Path.{ap, _∙_}
 use native.Mathlib.Omega.{arith}
 use lib.ListN.{length}
 use borrow.Author.Needs.{needs}
-use Rattle.protocol.specs.Detection.{Scan, detectAll1}
+use Rattle.protocol.specs.Detection.{Scan, detectAllG}
 use Rattle.walk.proofs.Carried.{inner-few}
 use Rattle.frames.proofs.Listed.{inner-walkable, inner-front-nodes, inner-front-labels, inner-front-held}
 use Rattle.detection.proofs.rule_g.detect_cells.Statement.{statement}
@@ -40,7 +40,7 @@ returns c =
     let e = c .before .before .before .before .before .before .before .before .before .before .before .before in
     let a = e .args in
     let x = c .before .before .detect-list in
-    let all = ap (λ αs. detectAll1 a.plan a.board a.run a.round αs (record { detected = a.list; cells = a.cells .now })) (inner-front-labels (e .pre .0) (e .pre .1) (c .before .before .before .before .before .before .before .inner-nodes .ensures)) in
+    let all = ap (λ αs. detectAllG a.plan a.board a.run a.round αs (record { detected = a.list; cells = a.cells .now })) (inner-front-labels (e .pre .0) (e .pre .1) (c .before .before .before .before .before .before .before .inner-nodes .ensures)) in
     (x .ensures .0 ∙ ap (λ (s : Scan). s .detected) all, x .ensures .1 ∙ ap (λ (s : Scan). s .cells) all)
 
 pub detect-cells-spec : {M : Type 1} → statement M

@@ -8,7 +8,7 @@ use mir.Syntax.{w8}
 use mir.Val.{Fits}
 use lib.ListN.{length, getD, drop, drop-of-length-le}
 use borrow.Author.Needs.{needs}
-use Rattle.protocol.specs.Detection.{Scan, detectAll1}
+use Rattle.protocol.specs.Detection.{Scan, detectAllG}
 use Rattle.frames.specs.Nodes.{nodeAt, labelsOf}
 use Rattle.frames.proofs.Listed.{labels-drop, labels-length}
 use Rattle.detection.proofs.Kids.{visiting}
@@ -20,7 +20,7 @@ Inv-loop plan holders board run round nodes list cells₀ start detected₀ i₀
     let αs = labelsOf plan (round .0 - 1) nodes in
     (i ≤ length nodes)
     × (length cells ≡ length cells₀)
-    × (detectAll1 plan board run round (drop i αs) (record { detected = detected; cells = cells }) ≡ detectAll1 plan board run round αs (record { detected = list; cells = cells₀ }))
+    × (detectAllG plan board run round (drop i αs) (record { detected = detected; cells = cells }) ≡ detectAllG plan board run round αs (record { detected = list; cells = cells₀ }))
 
 abbrev μ-loop : tie.MeasureT-loop
 μ-loop plan holders board run round nodes list cells₀ start detected₀ i₀ cells detected i = length nodes - i
@@ -40,7 +40,7 @@ detect-at-requires c κs =
     )
 
 loop-again : tie.Need-loop-again Inv-loop μ-loop
-unfolding detectAll1
+unfolding detectAllG
 loop-again c =
     let l = c .before .before .before .before .before .before .loop in
     let a = c .before .before .before .before .before .before .before .before .before .before .before .args in
@@ -52,19 +52,19 @@ loop-again c =
     let toScan : ℕ → List ℕ → Scan = λ d cs. record { detected = d; cells = cs } in (
       omega arith,
       x .kept .1 .1 .1 .1 .1 .1 .1 .1 .0 ∙ l .inv .1,
-      ap₂ (λ d cs. detectAll1 a.plan a.board a.run a.round (drop (l.i + 1) αs) (toScan d cs)) (x .ensures .0) (x .ensures .1)
-          ∙ sym (ap (λ βs. detectAll1 a.plan a.board a.run a.round βs now) (labels-drop a.plan level l.i (a.nodes .now) (omega arith)))
+      ap₂ (λ d cs. detectAllG a.plan a.board a.run a.round (drop (l.i + 1) αs) (toScan d cs)) (x .ensures .0) (x .ensures .1)
+          ∙ sym (ap (λ βs. detectAllG a.plan a.board a.run a.round βs now) (labels-drop a.plan level l.i (a.nodes .now) (omega arith)))
           ∙ l .inv .2,
     )
 
 returns : tie.Need-returns Inv-loop μ-loop
-unfolding detectAll1
+unfolding detectAllG
 returns c =
     let l = c .before .loop in
     let a = c .before .before .before .before .before .before .args in
     let αs = labelsOf a.plan (a.round .0 - 1) (a.nodes .now) in
     let end : drop l.i αs ≡ [] = drop-of-length-le αs (let z : length αs ≤ l.i = omega (arith, labels-length a.plan (a.round .0 - 1) (a.nodes .now)) in z) in
-    let done = sym (ap (λ βs. detectAll1 a.plan a.board a.run a.round βs (record { detected = l.detected; cells = l.cells })) end) ∙ l .inv .2 in
+    let done = sym (ap (λ βs. detectAllG a.plan a.board a.run a.round βs (record { detected = l.detected; cells = l.cells })) end) ∙ l .inv .2 in
     (ap (λ (s : Scan). s .detected) done, ap (λ (s : Scan). s .cells) done)
 
 pub detect-list-spec : {M : Type 1} → statement M

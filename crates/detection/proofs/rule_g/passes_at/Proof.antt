@@ -23,7 +23,7 @@ returns c =
     let a = e .args in
     let α = nodeAt a.plan a.level a.node in
     let end : c .before .before .last-of .result ≡ last α = c .before .before .last-of .ensures ∙ e .pre .is-node .end in
-    let on : member (last α) a.list ≡ true = ap₂ member (sym end) (sym (list .ensures)) ∙ sym (c .before .has .ensures) ∙ c .if1 .taken in
+    let on : member (last α) a.list ≡ true = ap₂ member (sym end) (sym (list .ensures)) ∙ sym (c .before .member .ensures) ∙ c .if1 .taken in
     sym (ap (λ b. b || explained a.plan α (byCell a.plan (a.cells .now) α) a.list) on)
 
 first-child-requires : tie.Need-first-child-requires
@@ -46,7 +46,7 @@ returns-2 c =
     let a = e .args in
     let α = nodeAt a.plan a.level a.node in
     let end : asked .before .before .last-of .result ≡ last α = asked .before .before .last-of .ensures ∙ e .pre .is-node .end in
-    let out : member (last α) a.list ≡ false = ap₂ member (sym end) (sym (list .ensures)) ∙ sym (asked .before .has .ensures) ∙ asked .if1 .left in
+    let out : member (last α) a.list ≡ false = ap₂ member (sym end) (sym (list .ensures)) ∙ sym (asked .before .member .ensures) ∙ asked .if1 .left in
     c .explained-by .ensures
     ∙ ap (explainedBy a.plan (c .before .before .before .boards-of .result) (c .before .child-values .result)) (list .ensures)
     ∙ ap₂ (λ s t. explainedBy a.plan s t a.list) (c .before .before .before .boards-of .ensures)

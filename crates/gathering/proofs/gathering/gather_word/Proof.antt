@@ -9,7 +9,7 @@ use Rattle.gathering.proofs.gathering.gather_word.Statement.{statement}
 use Rattle.gathering.proofs.gathering.gather_word.Tie as tie
 
 returns : tie.Need-returns
-returns c = rw (sym (c .before .has .ensures) ∙ c .if1 .taken) refl
+returns c = rw (sym (c .before .member .ensures) ∙ c .if1 .taken) refl
 
 slice-write-cells : tie.Need-slice-write-cells
 slice-write-cells c =
@@ -21,7 +21,7 @@ returns-2 : tie.Need-returns-2
 returns-2 c =
     let asked = c .before .before in
     let a = asked .before .before .args in
-    rw (sym (asked .has .ensures) ∙ c .before .if1 .left) (ap (set (a.cells .now) 0) (c .default .ensures))
+    rw (sym (asked .member .ensures) ∙ c .before .if1 .left) (ap (set (a.cells .now) 0) (c .default .ensures))
 
 pub gather-word-spec : {M : Type 1} → statement M
 gather-word-spec =

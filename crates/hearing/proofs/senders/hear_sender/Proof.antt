@@ -14,7 +14,7 @@ returns : tie.Need-returns
 returns c =
     let a = c .before .before .before .before .before .before .before .before .before .args in
     let d = c .before .before .act-all in
-    let e = heard-faulty a.head (framesFrom (a.text .now) a.from) a.q (record { recs = a.records; cells = a.cells .now }) (sym (c .before .before .before .before .before .before .has .ensures) ∙ c .before .before .before .before .before .if1 .taken) in
+    let e = heard-faulty a.head (framesFrom (a.text .now) a.from) a.q (record { recs = a.records; cells = a.cells .now }) (sym (c .before .before .before .before .before .before .member .ensures) ∙ c .before .before .before .before .before .if1 .taken) in
     (d .ensures .0 ∙ ap (λ x. x .recs) e, d .ensures .1 ∙ ap (λ x. x .cells) e)
 
 returns-2 : tie.Need-returns-2
@@ -24,7 +24,7 @@ returns-2 c =
     let f = c .before .before .before .before .before .before .before .sender-frame in
     let last = f .last .1 .1 .1 .1 .0 in
     let e = heard-healthy a.head (framesFrom (a.text .now) a.from) a.q (record { recs = a.records; cells = a.cells .now }) (take (f .result - 0) last)
-    (sym (c .before .before .before .before .before .before .before .before .before .before .before .has .ensures) ∙ c .before .before .before .before .before .before .before .before .before .before .if1 .left)
+    (sym (c .before .before .before .before .before .before .before .before .before .before .before .member .ensures) ∙ c .before .before .before .before .before .before .before .before .before .before .if1 .left)
     (ap (λ m. take m last) (let h : f .result - 0 ≡ f .result = omega arith in h) ∙ f .ensures .1) in
     (d .ensures .0 ∙ ap (λ x. x .recs) e, d .ensures .1 ∙ ap (λ x. x .cells) e)
 

@@ -10,20 +10,20 @@ use Rattle.judging.proofs.judging.has_good_fields.Statement.{statement}
 use Rattle.judging.proofs.judging.has_good_fields.Tie as tie
 
 -- The list and the marks name boards below n, or not.
-listing : (c : tie.After-subset)
-    → let r = c .before .before .before .args .r in c .subset .result ≡ within (r .detected) (boards (r .plan .n))
+listing : (c : tie.After-within)
+    → let r = c .before .before .before .args .r in c .within .result ≡ within (r .detected) (boards (r .plan .n))
 listing c =
     let set = c .before in
     let e = set .before .before in
-    c .subset .ensures ∙ ap₂ within (set .as-set .ensures) (all-below (e .args .r .plan .n) _ (e .pre) (set .before .all-boards .ensures))
+    c .within .ensures ∙ ap₂ within (set .as-set .ensures) (all-below (e .args .r .plan .n) _ (e .pre) (set .before .all-boards .ensures))
 
-marking : (c : tie.After-subset2)
-    → let r = c .before .before .before .before .before .args .r in c .subset2 .result ≡ within (r .taken) (boards (r .plan .n))
+marking : (c : tie.After-within2)
+    → let r = c .before .before .before .before .before .args .r in c .within2 .result ≡ within (r .taken) (boards (r .plan .n))
 marking c =
     let first = c .before in
     let held = first .before .before .before in
     let e = held .before in
-    c .subset2 .ensures ∙ ap (within (e .args .r .taken)) (all-below (e .args .r .plan .n) _ (e .pre) (held .all-boards .ensures))
+    c .within2 .ensures ∙ ap (within (e .args .r .taken)) (all-below (e .args .r .plan .n) _ (e .pre) (held .all-boards .ensures))
 
 returns : tie.Need-returns
 unfolding goodMarks

@@ -14,8 +14,8 @@ returns c =
     let first = later .before .before in
     let a = first .before .before .args in
     let o : Board = boardWith a.r (a.cells .now) in
-    c .first-of2 .ensures
-    ∙ ap₂ andThen (first .judge-record .ensures) (c .before .first-of .ensures ∙ ap₂ andThen (later .before .judge-cells .ensures) (later .judge-decided .ensures))
+    c .and-then2 .ensures
+    ∙ ap₂ andThen (first .judge-record .ensures) (c .before .and-then .ensures ∙ ap₂ andThen (later .before .judge-cells .ensures) (later .judge-decided .ensures))
     ∙ open-judged o
 
 pub judge-open-spec : {M : Type 1} → statement M

@@ -66,11 +66,11 @@ loop-again c =
     let h = printHead a.n a.dealer a.faulty a.word in
     let b = boardsOf a.t5 in
     ⊎-elim
-    (λ w. let f : member l.i a.faulty ≡ false = sym (c .before .has .ensures) ∙ not-t (c .before .has .result) (w .0 .taken) in
+    (λ w. let f : member l.i a.faulty ≡ false = sym (c .before .member .ensures) ∙ not-t (c .before .member .result) (w .0 .taken) in
     let line = line-shown h b l.i (w .1 .result) (w .3 .result) _ _ (w .1 .ensures) (w .3 .ensures) (decision-at a.t5 l.i _ refl) (w .2 .ensures ∙ detected-at a.t5 l.i _ refl) f in
     let (u, o) = one-more h b l.i l.used (a.out .now) l.out _ _ (l .inv .1) (l .inv .2) f line (w .5 .ensures) in
     (omega arith, w .9 ∙ u, w .8 ∙ o))
-    (λ w. let f : member l.i a.faulty ≡ true = sym (c .before .has .ensures) ∙ not-f (c .before .has .result) (w .0 .left) in
+    (λ w. let f : member l.i a.faulty ≡ true = sym (c .before .member .ensures) ∙ not-f (c .before .member .result) (w .0 .left) in
     let e = none-more h b l.i f in
     (omega arith, w .2 ∙ l .inv .1 ∙ ap length e, w .1 ∙ l .inv .2 ∙ ap (sets (a.out .now) 0) e))
     (c .if3 .came)

@@ -32,7 +32,7 @@ returns-3 c =
     let a = c .before .before .before .before .before .before .before .before .before .before .args in
     let line = a.line .now in
     let k : c .before .before .before .key-of .result ≡ lineKey line = c .before .before .before .key-of .ensures in
-    line-healthy a.plan a.faulty a.least line (c .before .before .before .before .if1 .left) (omega (arith, k, c .before .before .if2 .left)) (sym (c .before .has .ensures ∙ ap (λ q. member q a.faulty) (c .before .before .before .before .before .before .byte-at3 .ensures)) ∙ not-t _ (c .if3 .taken))
+    line-healthy a.plan a.faulty a.least line (c .before .before .before .before .if1 .left) (omega (arith, k, c .before .before .if2 .left)) (sym (c .before .member .ensures ∙ ap (λ q. member q a.faulty) (c .before .before .before .before .before .before .byte-at3 .ensures)) ∙ not-t _ (c .if3 .taken))
 
 returns-4 : tie.Need-returns-4
 unfolding lineKey
@@ -40,7 +40,7 @@ returns-4 c =
     let a = c .before .before .before .before .before .before .before .before .before .before .before .before .args in
     let line = a.line .now in
     let k : c .before .before .before .before .before .key-of .result ≡ lineKey line = c .before .before .before .before .before .key-of .ensures in
-    line-faulty a.plan a.faulty a.least line (c .before .before .before .before .before .before .if1 .left) (omega (arith, k, c .before .before .before .before .if2 .left)) (sym (c .before .before .before .has .ensures ∙ ap (λ q. member q a.faulty) (c .before .before .before .before .before .before .before .before .byte-at3 .ensures)) ∙ not-f _ (c .before .before .if3 .left)) (sym (c .before .has2 .ensures ∙ ap (λ q. member q a.faulty) (c .before .before .before .before .before .before .before .byte-at4 .ensures)) ∙ c .if4 .taken)
+    line-faulty a.plan a.faulty a.least line (c .before .before .before .before .before .before .if1 .left) (omega (arith, k, c .before .before .before .before .if2 .left)) (sym (c .before .before .before .member .ensures ∙ ap (λ q. member q a.faulty) (c .before .before .before .before .before .before .before .before .byte-at3 .ensures)) ∙ not-f _ (c .before .before .if3 .left)) (sym (c .before .member2 .ensures ∙ ap (λ q. member q a.faulty) (c .before .before .before .before .before .before .before .byte-at4 .ensures)) ∙ c .if4 .taken)
 
 returns-5 : tie.Need-returns-5
 unfolding lineKey
@@ -51,7 +51,7 @@ returns-5 c =
     c .is-expected .ensures
     ∙ ap₂ (λ t k. expected a.plan (record { 0 = t }) (record { 0 = k }) (c .before .before .before .before .before .before .before .before .before .byte-at3 .result) (c .before .before .before .before .before .before .before .before .byte-at4 .result)) (c .before .before .before .before .before .before .before .before .before .before .before .byte-at .ensures) (c .before .before .before .before .before .before .before .before .before .before .byte-at2 .ensures)
     ∙ ap₂ (λ q i. expected a.plan (record { 0 = byteAt line 0 }) (record { 0 = byteAt line 1 }) q i) (c .before .before .before .before .before .before .before .before .before .byte-at3 .ensures) (c .before .before .before .before .before .before .before .before .byte-at4 .ensures)
-    ∙ line-rest a.plan a.faulty a.least line (c .before .before .before .before .before .before .before .if1 .left) (omega (arith, k, c .before .before .before .before .before .if2 .left)) (sym (c .before .before .before .before .has .ensures ∙ ap (λ q. member q a.faulty) (c .before .before .before .before .before .before .before .before .before .byte-at3 .ensures)) ∙ not-f _ (c .before .before .before .if3 .left)) (sym (c .before .before .has2 .ensures ∙ ap (λ q. member q a.faulty) (c .before .before .before .before .before .before .before .before .byte-at4 .ensures)) ∙ c .before .if4 .left)
+    ∙ line-rest a.plan a.faulty a.least line (c .before .before .before .before .before .before .before .if1 .left) (omega (arith, k, c .before .before .before .before .before .if2 .left)) (sym (c .before .before .before .before .member .ensures ∙ ap (λ q. member q a.faulty) (c .before .before .before .before .before .before .before .before .before .byte-at3 .ensures)) ∙ not-f _ (c .before .before .before .if3 .left)) (sym (c .before .before .member2 .ensures ∙ ap (λ q. member q a.faulty) (c .before .before .before .before .before .before .before .before .byte-at4 .ensures)) ∙ c .before .if4 .left)
 
 pub is-good-frame-spec : {M : Type 1} → statement M
 is-good-frame-spec =

@@ -46,7 +46,7 @@ returns-3 c =
     let known = other .before .before in
     let e = known .before .before in
     let a = e .args in
-    later-again (e .pre .0) (e .pre .1) a.q (e .pre .2) (other .if1 .left) a.detected a.taken (decode (a.frame .now)) (a.cells .now) (listed .carried-nodes .result) (listed .carried-nodes .ensures .counted) (some .if2 .left) (sym (c .before .has .ensures) ∙ c .if3 .taken)
+    later-again (e .pre .0) (e .pre .1) a.q (e .pre .2) (other .if1 .left) a.detected a.taken (decode (a.frame .now)) (a.cells .now) (listed .carried-nodes .result) (listed .carried-nodes .ensures .counted) (some .if2 .left) (sym (c .before .member .ensures) ∙ c .if3 .taken)
 
 part-store-frame-end : tie.Need-part-store-frame-end
 part-store-frame-end c =
@@ -87,7 +87,7 @@ returns-4 c =
     let a = e .args in
     let l = listed .carried-nodes .ensures in
     later-new (e .pre .0) (e .pre .1) a.q (e .pre .2) (other .if1 .left) a.detected a.taken (decode (a.frame .now)) (a.cells .now) (listed .carried-nodes .result) (l .counted)
-    (some .if2 .left) (sym (new .before .has .ensures) ∙ new .if3 .left) _ _ (front-labels (e .pre .0) (e .pre .1) a.q l) (stored .store-frame .ensures)
+    (some .if2 .left) (sym (new .before .member .ensures) ∙ new .if3 .left) _ _ (front-labels (e .pre .0) (e .pre .1) a.q l) (stored .store-frame .ensures)
 
 pub take-later-spec : {M : Type 1} → statement M
 take-later-spec =

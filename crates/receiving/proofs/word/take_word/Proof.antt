@@ -27,7 +27,7 @@ returns-2 c =
     let asked = own .before in
     let a = asked .before .before .before .args in
     takes-again a.plan a.q a.detected a.taken (eqb a.q (a.plan .dealer)) ([] ∷ []) (decode (a.frame .now)) (a.cells .now)
-    (eq-eqb _ _ (own .if1 .left)) (sym (asked .has .ensures) ∙ c .if2 .taken)
+    (eq-eqb _ _ (own .if1 .left)) (sym (asked .member .ensures) ∙ c .if2 .taken)
 
 slice-write-cells : tie.Need-slice-write-cells
 slice-write-cells c =
@@ -44,7 +44,7 @@ returns-3 c =
     let asked = own .before in
     let a = asked .before .before .before .args in
     takes-root a.plan a.detected a.q (decode (a.frame .now)) a.taken (eqb a.q (a.plan .dealer)) (a.cells .now) _
-    (eq-eqb _ _ (own .if1 .left)) (sym (asked .has .ensures) ∙ new .if2 .left) (c .word-of .ensures)
+    (eq-eqb _ _ (own .if1 .left)) (sym (asked .member .ensures) ∙ new .if2 .left) (c .word-of .ensures)
 
 pub take-word-spec : {M : Type 1} → statement M
 take-word-spec =

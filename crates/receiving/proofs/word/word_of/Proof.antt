@@ -21,7 +21,7 @@ returns c =
     let a = size .before .before .args in
     let one = sym (size .value-count .ensures) ∙ fit .if1 .taken in
     c .value .ensures ∙ ap (value a.plan) (read .value-at .ensures)
-    ∙ sym (word-counts a.plan a.detected a.q (decode (a.frame .now)) one (ap (member a.q) (sym (set .as-set .ensures)) ∙ sym (heard .before .has .ensures) ∙ not-t _ (heard .if2 .taken)))
+    ∙ sym (word-counts a.plan a.detected a.q (decode (a.frame .now)) one (ap (member a.q) (sym (set .as-set .ensures)) ∙ sym (heard .before .member .ensures) ∙ not-t _ (heard .if2 .taken)))
 
 returns-2 : tie.Need-returns-2
 returns-2 c =

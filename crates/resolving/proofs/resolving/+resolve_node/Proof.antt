@@ -22,7 +22,7 @@ use Rattle.resolving.proofs.resolving.is_leaf.Reads as is-leaf-reads
 use Rattle.resolving.proofs.resolving.resolve_node.Kinds as kinds
 use Rattle.resolving.proofs.resolving.resolve_node.Reads as self
 use Rattle.resolving.proofs.resolving.settle_leaf.Reads as settle-leaf-reads
-use Rattle.sets.proofs.boards.has.Reads as has-reads
+use Rattle.sets.proofs.boards.member.Reads as member-reads
 use Rattle.tree.proofs.levels.level_size.Reads as level-size-reads
 use Rattle.voting.proofs.voting.vote.Reads as vote-reads
 
@@ -44,8 +44,8 @@ callees t = (
   settle-leaf-reads.Learnt,
   level-size-reads.Asked,
   level-size-reads.Learnt,
-  has-reads.Asked,
-  has-reads.Learnt,
+  member-reads.Asked,
+  member-reads.Learnt,
   below-t t,
   self.Post,
   vote-reads.Asked,
@@ -149,7 +149,7 @@ resolve-node-requires t c κs =
     let l = x .before .loop in
     let z = x .before .before in
     let ne = some-left t (z .before) in
-    let out = sym (c .before .before .has .ensures) ∙ not-t _ (c .before .if2 .taken) in (
+    let out = sym (c .before .before .member .ensures) ∙ not-t _ (c .before .if2 .taken) in (
       left-falls (s .pre .1 .0) (s .pre .1 .1) (s .pre .0) ne,
       (
         filling-room (s .pre .1 .0) (s .pre .1 .1) (l .inv),
@@ -176,8 +176,8 @@ loop-again t c =
     let f = x .before .loop .inv in
     let inside = x .loop-test .taken in
     ⊎-elim
-    (λ w. filling-here (s .pre .1 .0) (s .pre .1 .1) f inside (sym (c .before .has .ensures) ∙ not-t _ (w .0 .taken)) (w .2 .ensures) (w .7) (w .6) (w .5))
-    (λ w. filling-skip (s .pre .1 .0) (s .pre .1 .1) f inside (sym (c .before .has .ensures) ∙ not-f _ (w .0 .left)) (w .3) (w .2) (w .1))
+    (λ w. filling-here (s .pre .1 .0) (s .pre .1 .1) f inside (sym (c .before .member .ensures) ∙ not-t _ (w .0 .taken)) (w .2 .ensures) (w .7) (w .6) (w .5))
+    (λ w. filling-skip (s .pre .1 .0) (s .pre .1 .1) f inside (sym (c .before .member .ensures) ∙ not-f _ (w .0 .left)) (w .3) (w .2) (w .1))
     (c .if2 .came)
 
 vote-requires : (t : ℕ) → lts.Need-vote-requires (callees t) (at-t t) self.Post Inv-loop μ-loop

@@ -8,30 +8,30 @@ use Rattle.schedule.proofs.rounds.has_round.Tie as tie
 returns : tie.Need-returns
 returns c =
     let a = c .before .before .before .args in
-    sym (before-first a.plan a.run (c .before .before .last-run .result) a.round (c .before .last-round .result) (c .before .before .last-run .ensures) (c .before .last-round .ensures) (c .if1 .taken))
+    sym (before-first a.plan a.run (c .before .before .runs .result) a.round (c .before .rounds .result) (c .before .before .runs .ensures) (c .before .rounds .ensures) (c .if1 .taken))
 
 returns-2 : tie.Need-returns-2
 returns-2 c =
     let a = c .before .before .before .before .args in
-    sym (past-run a.plan a.run (c .before .before .before .last-run .result) a.round (c .before .before .last-round .result) (c .before .before .before .last-run .ensures) (c .before .before .last-round .ensures) (c .if2 .taken))
+    sym (past-run a.plan a.run (c .before .before .before .runs .result) a.round (c .before .before .rounds .result) (c .before .before .before .runs .ensures) (c .before .before .rounds .ensures) (c .if2 .taken))
 
 returns-3 : tie.Need-returns-3
 returns-3 c =
     let b = c .before .before .before in
     let a = b .before .before .args in
-    sym (past-round a.plan a.run (b .before .last-run .result) a.round (b .last-round .result) (b .before .last-run .ensures) (b .last-round .ensures) (c .if3 .taken))
+    sym (past-round a.plan a.run (b .before .runs .result) a.round (b .rounds .result) (b .before .runs .ensures) (b .rounds .ensures) (c .if3 .taken))
 
 returns-4 : tie.Need-returns-4
 returns-4 c =
     let b = c .before .before .before .before in
     let a = b .before .before .args in
-    sym (in-first a.plan a.run (b .before .last-run .result) a.round (b .last-round .result) (b .before .last-run .ensures) (b .last-round .ensures) (omega arith) (omega arith) (omega arith) (c .if4 .taken))
+    sym (in-first a.plan a.run (b .before .runs .result) a.round (b .rounds .result) (b .before .runs .ensures) (b .rounds .ensures) (omega arith) (omega arith) (omega arith) (c .if4 .taken))
 
 returns-5 : tie.Need-returns-5
 returns-5 c =
     let b = c .before .before .before .before in
     let a = b .before .before .args in
-    sym (in-later a.plan a.run (b .before .last-run .result) a.round (b .last-round .result) (b .before .last-run .ensures) (b .last-round .ensures) (omega arith) (omega arith) (omega arith) (c .if4 .left))
+    sym (in-later a.plan a.run (b .before .runs .result) a.round (b .rounds .result) (b .before .runs .ensures) (b .rounds .ensures) (omega arith) (omega arith) (omega arith) (c .if4 .left))
 
 pub has-round-spec : {M : Type 1} → statement M
 has-round-spec =

@@ -9,12 +9,12 @@ use Rattle.schedule.proofs.rounds.size_with.Tie as tie
 returns : tie.Need-returns
 returns c =
     let a = c .before .before .before .args in
-    (c .size-of .ensures .0 ∙ sym (ap (λ b. cond b (size a.s) 0) (sym (c .before .before .has .ensures) ∙ c .before .if1 .taken)), omega arith)
+    (c .size .ensures .0 ∙ sym (ap (λ b. cond b (size a.s) 0) (sym (c .before .before .member .ensures) ∙ c .before .if1 .taken)), omega arith)
 
 returns-2 : tie.Need-returns-2
 returns-2 c =
     let a = c .before .before .args in
-    (sym (ap (λ b. cond b (size a.s) 0) (sym (c .before .has .ensures) ∙ c .if1 .left)), omega arith)
+    (sym (ap (λ b. cond b (size a.s) 0) (sym (c .before .member .ensures) ∙ c .if1 .left)), omega arith)
 
 pub size-with-spec : {M : Type 1} → statement M
 size-with-spec = tie.close (tie.spec (λ c κs. search needs) (λ c κs. search needs) returns returns-2)

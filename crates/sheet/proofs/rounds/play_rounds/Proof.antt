@@ -31,7 +31,7 @@ unfolding framesLeft
 loop-holds c = (search needs, λ t e. e, refl, refl)
 
 skip-to-step-requires : tie.Need-skip-to-step-requires Inv-loop μ-loop
-skip-to-step-requires c κs = omega (arith, c .before .before .before .before .before .before .before .before .all-rounds .ensures)
+skip-to-step-requires c κs = omega (arith, c .before .before .before .before .before .before .before .before .steps .ensures)
 
 play-round-requires : tie.Need-play-round-requires Inv-loop μ-loop
 play-round-requires c κs =
@@ -72,7 +72,7 @@ returns c =
     let l = c .before .loop in
     let d = c .before .before .before .before .act-all in
     let v = c .before .before .before .before .before .before .void-records in
-    let z = c .before .before .before .before .before .before .before .before .all-rounds in
+    let z = c .before .before .before .before .before .before .before .before .steps in
     let fs = framesFrom (a.text .now) a.from in
     let t : Stage = record { recs = replicate 7 voidRecord; cells = a.cells .now } in
     let start = ap₂ (λ x y. record { recs = x; cells = y }) (d .ensures .0) (d .ensures .1)

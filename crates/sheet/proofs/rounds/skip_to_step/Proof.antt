@@ -4,7 +4,7 @@ use Prim.Native.Nat.{_≤_}
 use mathlib.Core.Path.{ap, sym, _∙_}
 use native.Mathlib.Omega.{arith}
 use borrow.Author.Needs.{needs}
-use Rattle.schedule.proofs.rounds.last_round.Reads as last-round-reads
+use Rattle.schedule.proofs.rounds.rounds.Reads as rounds-reads
 use Rattle.finding.specs.Frames.{framesFrom, skipFrames}
 use Rattle.finding.proofs.finding.skip_to.Reads as skip-to-reads
 use Rattle.sheet.specs.Steps.{stepKey}
@@ -21,12 +21,12 @@ returns c =
     ∙ ap (λ k. skipFrames k (framesFrom (a.text .now) a.from)) (first-key a.plan ∙ ap (stepKey a.plan) (sym (c .before .if1 .taken)))
 
 -- A step after the first.
-numbers : (c : lts.After-struct-known (skip-to-reads.Asked, skip-to-reads.Learnt, last-round-reads.Asked, last-round-reads.Learnt) reads.Pre reads.Post)
-    → Later (c .before .before .before .before .args .plan) (c .before .last-round .result) (c .before .before .before .before .args .j)
+numbers : (c : lts.After-struct-known (skip-to-reads.Asked, skip-to-reads.Learnt, rounds-reads.Asked, rounds-reads.Learnt) reads.Pre reads.Post)
+    → Later (c .before .before .before .before .args .plan) (c .before .rounds .result) (c .before .before .before .before .args .j)
 numbers c =
     let s = c .before .before .before .before in
     let a = s .args in
-    let last = c .before .last-round in
+    let last = c .before .rounds in
     let round : last .result .0 ≤ 255 = search needs in
     let boards : a.plan .n ≤ 255 = search needs in
     later a.plan (last .result) a.j (last .ensures) round boards (omega (arith, c .before .before .if1 .left)) (s .pre)

@@ -12,14 +12,14 @@ returns : tie.Need-returns
 unfolding keeps
 returns c =
     let a = c .before .before .args in
-    let e : member a.i (a.head .faulty) ≡ true = sym (c .before .has .ensures) ∙ c .if1 .taken in
+    let e : member a.i (a.head .faulty) ≡ true = sym (c .before .member .ensures) ∙ c .if1 .taken in
     rw e
 
 returns-2 : tie.Need-returns-2
 unfolding keeps
 returns-2 c =
     let a = c .before .before .args in
-    let e : member a.i (a.head .faulty) ≡ false = sym (c .before .has .ensures) ∙ c .if1 .left in
+    let e : member a.i (a.head .faulty) ≡ false = sym (c .before .member .ensures) ∙ c .if1 .left in
     rw e refl
 
 pub is-keeper-spec : {M : Type 1} → statement M

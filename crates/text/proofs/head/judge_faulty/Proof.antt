@@ -17,12 +17,12 @@ use Rattle.text.proofs.head.judge_faulty.Statement.{statement}
 use Rattle.text.proofs.head.judge_faulty.Tie as tie
 
 -- The set names boards of the plan, or not.
-named : (c : tie.After-subset) → let a = c .before .before .before .before .args in c .subset .result ≡ within a.faulty (boards (min a.n 7))
+named : (c : tie.After-within) → let a = c .before .before .before .before .args in c .within .result ≡ within a.faulty (boards (min a.n 7))
 named c =
     let few = c .before .before in
     let a = few .before .before .args in
     let z : min (few .at-most-seven .result) 8 ≡ min a.n 7 = omega (arith, few .at-most-seven .ensures) in
-    c .subset .ensures ∙ ap (within a.faulty) (c .before .all-boards .ensures ∙ ap boards z)
+    c .within .ensures ∙ ap (within a.faulty) (c .before .all-boards .ensures ∙ ap boards z)
 
 returns : tie.Need-returns
 unfolding verdict refusal

@@ -27,8 +27,8 @@ returns-2 c =
     let counted = sized .before in
     let line = counted .before .before .args .line .now in
     let sets = slots-part line (counted .byte-at .result) (listed .sets-of .result) (listed .sets-of .ensures) in
-    c .first-of2 .ensures
-    ∙ ap₂ andThen (planned .new .ensures .0) (c .before .first-of .ensures ∙ ap₂ andThen (worded .judge-word .ensures) (judged .judge-faulty .ensures))
+    c .and-then2 .ensures
+    ∙ ap₂ andThen (planned .new .ensures .0) (c .before .and-then .ensures ∙ ap₂ andThen (worded .judge-word .ensures) (judged .judge-faulty .ensures))
     ∙ head-judged line _ _ _ _ _ _ (numbered .byte-at2 .ensures) (settled .settings-of .ensures) (worded .before .number-at .ensures) (counted .byte-at .ensures)
     (read .byte-at3 .ensures) sets (sized .if1 .left)
 

@@ -30,8 +30,8 @@ loop-again c =
     let a = c .before .before .before .before .args in
     let l = c .before .before .before .loop in
     ⊎-elim
-    (λ w. (omega arith, omega (arith, w .1, outside-more a.s l.i (sym (c .before .has .ensures) ∙ not-t _ (w .0 .taken)))))
-    (λ w. (omega arith, omega (arith, w .1, outside-skip a.s l.i (sym (c .before .has .ensures) ∙ not-f _ (w .0 .left)))))
+    (λ w. (omega arith, omega (arith, w .1, outside-more a.s l.i (sym (c .before .member .ensures) ∙ not-t _ (w .0 .taken)))))
+    (λ w. (omega arith, omega (arith, w .1, outside-skip a.s l.i (sym (c .before .member .ensures) ∙ not-f _ (w .0 .left)))))
     (c .if1 .came)
 
 returns : tie.Need-returns Inv-loop μ-loop

@@ -6,10 +6,10 @@ use Rattle.voting.proofs.explaining.dissents.Statement.{statement}
 use Rattle.voting.proofs.explaining.dissents.Tie as tie
 
 returns : tie.Need-returns
-returns c = rw (sym (c .before .has .ensures) ∙ c .if1 .taken)
+returns c = rw (sym (c .before .member .ensures) ∙ c .if1 .taken)
 
 returns-2 : tie.Need-returns-2
-returns-2 c = rw (sym (c .before .has .ensures) ∙ c .if1 .left)
+returns-2 c = rw (sym (c .before .member .ensures) ∙ c .if1 .left)
 
 pub dissents-spec : {M : Type 1} → statement M
 dissents-spec = tie.close (tie.spec (λ c κs. search needs) returns (λ c. search needs) returns-2)

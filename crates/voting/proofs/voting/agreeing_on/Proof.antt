@@ -32,7 +32,7 @@ loop-again c =
     let a = c .before .before .before .before .args in
     let l = c .before .before .before .loop in
     let f = agrees a.boards a.t3 a.v in
-    let m = sym (c .before .has .ensures) in
+    let m = sym (c .before .member .ensures) in
     ⊎-elim
     (λ w. (omega arith, w .2 ∙ setOf-more f l.c l.s (omega arith) (l .inv .1) (rw (m ∙ not-t _ (w .0 .taken)) (w .1 .taken))))
     (λ w. (

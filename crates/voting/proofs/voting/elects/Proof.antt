@@ -13,12 +13,12 @@ use Rattle.voting.proofs.voting.elects.Statement.{statement}
 use Rattle.voting.proofs.voting.elects.Tie as tie
 
 returns : tie.Need-returns
-returns c = rw (sym (c .before .has .ensures) ∙ c .if1 .taken)
+returns c = rw (sym (c .before .member .ensures) ∙ c .if1 .taken)
 
 returns-2 : tie.Need-returns-2
 returns-2 c =
     let a = c .before .before .before .before .before .args in
-    rw (sym (c .before .before .before .has .ensures) ∙ c .before .before .if1 .left, le-ltb (at a.t4 a.c) (a.plan .span) (omega arith))
+    rw (sym (c .before .before .before .member .ensures) ∙ c .before .before .if1 .left, le-ltb (at a.t4 a.c) (a.plan .span) (omega arith))
 
 tolerates-requires : tie.Need-tolerates-requires
 tolerates-requires c κs =
@@ -30,7 +30,7 @@ unfolding elected
 returns-3 c =
     let asks = c .before .before .before .before .before in
     let e = asks .before .before in
-    rw (sym (asks .has .ensures) ∙ c .before .before .before .before .if1 .left, lt-ltb (at (e .args .t4) (e .args .c)) (e .args .plan .span) (omega arith))
+    rw (sym (asks .member .ensures) ∙ c .before .before .before .before .if1 .left, lt-ltb (at (e .args .t4) (e .args .c)) (e .args .plan .span) (omega arith))
     (ap not (c .tolerates .ensures ∙ ap (tolerated (listed (e .args .plan))) (c .before .agreeing-on .ensures)))
 
 pub elects-spec : {M : Type 1} → statement M

@@ -19,7 +19,7 @@ use Rattle.tree.proofs.Descent.{insert-byte}
 use Rattle.walk.specs.Listing.{Written}
 use Rattle.walk.specs.Walk.{pack, isOpen, walked}
 use Rattle.walk.proofs.Steps.{rest, walked-shut, walked-last, walked-inner, number-fits, child-number, child-small, Walking, walking-start, walking-skip, walking-here, walking-room, walking-end}
-use Rattle.sets.proofs.boards.has.Reads as has-reads
+use Rattle.sets.proofs.boards.member.Reads as member-reads
 use Rattle.walk.proofs.node.node_of.Reads as node-of-reads
 use Rattle.walk.proofs.nodes.+walk.Lts-walk as walk-lts
 use Rattle.walk.proofs.nodes.+walk.Tie.{close}
@@ -44,8 +44,8 @@ callees t = (
   is-open-reads.Learnt,
   node-of-reads.Asked,
   node-of-reads.Learnt,
-  has-reads.Asked,
-  has-reads.Learnt,
+  member-reads.Asked,
+  member-reads.Learnt,
   walk-below t,
   walk.Post,
 )
@@ -198,7 +198,7 @@ slice-write-nodes-2 t c =
     let grows = c .before .before in
     let out = grows .before .before in
     let x = out .before .before in
-    let free = sym (out .before .has .ensures) ∙ not-t _ (out .if3 .taken) in
+    let free = sym (out .before .member .ensures) ∙ not-t _ (out .if3 .taken) in
     omega (arith, room x free, ap length (leaf x (c .before .if5 .taken) (sym (grows .before .is-open2 .ensures) ∙ grows .if4 .taken)))
 
 mul-nodes-2 : (t : ℕ) → walk-lts.Need-mul-nodes-2 (callees t) (walk-at t) walk.Post Inv-loop μ-loop
@@ -220,7 +220,7 @@ walk-requires t c κs =
         number = number x;
         small = small x;
         whole = p .whole;
-        room = room x (sym (out .before .has .ensures) ∙ not-t _ (out .if3 .taken));
+        room = room x (sym (out .before .member .ensures) ∙ not-t _ (out .if3 .taken));
       },
     )
 
@@ -260,9 +260,9 @@ loop-again t c =
       content = w .3 ∙ child .content ∙ ap (λ b. sets l.nodes l.at (f l.next l.c b)) (joined x);
     } in
     walking-here f a.boards a.n base a.used _ (a.nodes .now) l.c l.next l.at (c .if3 .next) (c .if3 .at) l.nodes (c .if3 .nodes) (l .inv) inside
-    (sym (c .before .has .ensures) ∙ not-t _ (w .0 .taken)) (w .4) k)
+    (sym (c .before .member .ensures) ∙ not-t _ (w .0 .taken)) (w .4) k)
     (λ w. walking-skip f a.boards a.n base a.used _ (a.nodes .now) l.c l.next l.at (c .if3 .next) (c .if3 .at) l.nodes (c .if3 .nodes) (l .inv) inside
-    (sym (c .before .has .ensures) ∙ not-f _ (w .0 .left)) (w .2) (w .3) (w .1))
+    (sym (c .before .member .ensures) ∙ not-f _ (w .0 .left)) (w .2) (w .3) (w .1))
     (c .if3 .came)
 
 same-length-2 : (t : ℕ) → walk-lts.Need-same-length-2 (callees t) (walk-at t) walk.Post Inv-loop μ-loop

@@ -7,41 +7,41 @@ use native.Mathlib.Omega.{arith}
 use Rattle.schedule.specs.Schedule.{steps}
 use Rattle.schedule.proofs.Levels.{rounds-pos, runs-pos}
 use borrow.Author.Needs.{needs}
-use Rattle.schedule.proofs.rounds.all_rounds.Statement.{statement}
-use Rattle.schedule.proofs.rounds.all_rounds.Tie as tie
+use Rattle.schedule.proofs.rounds.steps.Statement.{statement}
+use Rattle.schedule.proofs.rounds.steps.Tie as tie
 
 sub-result : tie.Need-sub-result
 sub-result c =
     let p = c .before .before .before .before .args .plan in
-    omega (arith, runs-pos p, ap (λ (x : Run). x .0) (c .before .before .before .last-run .ensures))
+    omega (arith, runs-pos p, ap (λ (x : Run). x .0) (c .before .before .before .runs .ensures))
 
 sub-result-2 : tie.Need-sub-result-2
 sub-result-2 c =
     let p = c .before .before .before .before .args .plan in
-    omega (arith, rounds-pos p, ap (λ (x : Round). x .0) (c .before .last-round .ensures))
+    omega (arith, rounds-pos p, ap (λ (x : Round). x .0) (c .before .rounds .ensures))
 
 mul-result : tie.Need-mul-result
 mul-result c =
-    let t = c .before .before .before .last-run .result .0 in
-    let k = c .before .last-round .result .0 in
+    let t = c .before .before .before .runs .result .0 in
+    let k = c .before .rounds .result .0 in
     let lt : t ≤ 255 = search needs in
     let lk : k ≤ 255 = search needs in
     record { fits = omega (arith, mul-le-mul {n₁ = t - 1} {m₁ = k - 1} {n₂ = 255} {m₂ = 255} (omega arith) (omega arith)) }
 
 add-result : tie.Need-add-result
 add-result c =
-    let t = c .before .before .before .last-run .result .0 in
-    let k = c .before .last-round .result .0 in
+    let t = c .before .before .before .runs .result .0 in
+    let k = c .before .rounds .result .0 in
     let lt : t ≤ 255 = search needs in
     let lk : k ≤ 255 = search needs in
     record { fits = omega (arith, mul-le-mul {n₁ = t - 1} {m₁ = k - 1} {n₂ = 255} {m₂ = 255} (omega arith) (omega arith)) }
 
 returns : tie.Need-returns
 unfolding steps
-returns c = ap₂ (λ (t : Run) (k : Round). k .0 + (t .0 - 1) * (k .0 - 1)) (c .before .before .before .last-run .ensures) (c .before .last-round .ensures)
+returns c = ap₂ (λ (t : Run) (k : Round). k .0 + (t .0 - 1) * (k .0 - 1)) (c .before .before .before .runs .ensures) (c .before .rounds .ensures)
 
-pub all-rounds-spec : {M : Type 1} → statement M
-all-rounds-spec =
+pub steps-spec : {M : Type 1} → statement M
+steps-spec =
     tie.close
     (tie.spec
     (λ c κs. search needs)

@@ -5,8 +5,8 @@ use mathlib.Core.Path.{_≡_, ap, _∙_}
 use native.Mathlib.Omega.{arith}
 use lib.ListN.{length, take}
 use borrow.Author.Needs.{needs}
-use Rattle.schedule.proofs.rounds.levels.Statement.{statement}
-use Rattle.schedule.proofs.rounds.levels.Tie as tie
+use Rattle.schedule.proofs.rounds.height.Statement.{statement}
+use Rattle.schedule.proofs.rounds.height.Tie as tie
 
 part-largest-with-end : tie.Need-part-largest-with-end
 part-largest-with-end c =
@@ -21,8 +21,8 @@ returns c =
     let k : c .before .before .before .slots-used .result - 0 ≡ min (p .count) 32 = omega arith in
     (ap (λ x. x + 1) (c .largest-with .ensures .0 ∙ ap (λ x. largest x (p .dealer)) (ap (λ m. take m (p .sets)) k ∙ slots-listed p h)), omega arith)
 
-pub levels-spec : {M : Type 1} → statement M
-levels-spec =
+pub height-spec : {M : Type 1} → statement M
+height-spec =
     tie.close
     (tie.spec
     (λ c κs. search needs)

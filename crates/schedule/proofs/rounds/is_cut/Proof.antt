@@ -1,12 +1,12 @@
--- `cut` meets its contract.
+-- `is_cut` meets its contract.
 -- Assumes nothing.
 use mathlib.Core.Path.{sym, ap₂, _∙_}
 use lib.Dec.{ltb}
 use borrow.Author.Needs.{needs}
 use borrow.Author.Tests.{eq-eqb, ne-eqb}
 use Rattle.schedule.specs.Schedule.{isCut}
-use Rattle.schedule.proofs.rounds.cut.Statement.{statement}
-use Rattle.schedule.proofs.rounds.cut.Tie as tie
+use Rattle.schedule.proofs.rounds.is_cut.Statement.{statement}
+use Rattle.schedule.proofs.rounds.is_cut.Tie as tie
 
 returns : tie.Need-returns
 unfolding isCut
@@ -17,7 +17,7 @@ unfolding isCut
 returns-2 c =
     let p = c .before .before .before .args .plan in
     let depth = c .before .before .depth-of .ensures in
-    ap₂ ltb depth (c .levels .ensures .0) ∙ simp (ne-eqb _ _ (λ e. c .before .if1 .left (depth ∙ e)))
+    ap₂ ltb depth (c .height .ensures .0) ∙ simp (ne-eqb _ _ (λ e. c .before .if1 .left (depth ∙ e)))
 
-pub cut-spec : {M : Type 1} → statement M
-cut-spec = tie.close (tie.spec (λ c κs. search needs) returns (λ c κs. search needs) returns-2)
+pub is-cut-spec : {M : Type 1} → statement M
+is-cut-spec = tie.close (tie.spec (λ c κs. search needs) returns (λ c κs. search needs) returns-2)

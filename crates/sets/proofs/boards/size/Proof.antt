@@ -8,8 +8,8 @@ use borrow.Author.Needs.{needs}
 use native.Mathlib.Omega.{arith}
 use Prim.Native.Nat.{ℕ, _≤_, _-_}
 use mathlib.Core.Path.{_≡_, sym, ap, _∙_}
-use Rattle.sets.proofs.boards.size_of.Statement.{statement}
-use Rattle.sets.proofs.boards.size_of.Tie as tie
+use Rattle.sets.proofs.boards.size.Statement.{statement}
+use Rattle.sets.proofs.boards.size.Tie as tie
 
 abbrev Inv-loop : tie.InvT-loop
 Inv-loop s n₀ i₀ n i = (i ≤ 8) × (n ≡ count (λ j. member j s) i) × (n ≤ i)
@@ -26,8 +26,8 @@ loop-again c =
     let l = c .before .before .before .loop in
     let f : ℕ → Bool = λ j. member j s in
     ⊎-elim
-    (λ w. (omega arith, rw add-one (omega (arith, w .1, l .inv .1, count-in f l.i (sym (c .before .has .ensures) ∙ w .0 .taken))), omega (arith, w .1)))
-    (λ w. (omega arith, rw add-one (omega (arith, w .1, l .inv .1, count-out f l.i (sym (c .before .has .ensures) ∙ w .0 .left))), omega (arith, w .1)))
+    (λ w. (omega arith, rw add-one (omega (arith, w .1, l .inv .1, count-in f l.i (sym (c .before .member .ensures) ∙ w .0 .taken))), omega (arith, w .1)))
+    (λ w. (omega arith, rw add-one (omega (arith, w .1, l .inv .1, count-out f l.i (sym (c .before .member .ensures) ∙ w .0 .left))), omega (arith, w .1)))
     (c .if1 .came)
 
 returns : tie.Need-returns Inv-loop μ-loop
@@ -37,7 +37,7 @@ returns c =
     let z : l.i ≡ 8 = omega arith in
     (l .inv .1 ∙ ap (count (λ j. member j (c .before .before .args .s))) z, omega arith)
 
-pub size-of-spec : {M : Type 1} → statement M
-size-of-spec =
+pub size-spec : {M : Type 1} → statement M
+size-spec =
     tie.close
     (tie.spec Inv-loop μ-loop loop-holds (λ c κs. search needs) (λ c. omega arith) (λ c. omega arith) (λ c. omega arith) loop-again returns)

@@ -7,8 +7,8 @@ use borrow.Author.Needs.{needs}
 use native.Mathlib.Omega.{arith}
 use Prim.Native.Nat.{_≤_, _-_}
 use mathlib.Core.Path.{_≡_, sym, ap, _∙_}
-use Rattle.sets.proofs.structure.holder_of.Statement.{statement}
-use Rattle.sets.proofs.structure.holder_of.Tie as tie
+use Rattle.sets.proofs.structure.holder.Statement.{statement}
+use Rattle.sets.proofs.structure.holder.Tie as tie
 
 abbrev Inv-loop : tie.InvT-loop
 Inv-loop sets a i₀ i = (i ≤ length sets) × (first (holds sets a) (length sets - i) i ≡ first (holds sets a) (length sets) 0)
@@ -28,14 +28,14 @@ unfolding place
 returns-2 c =
     let a = c .before .before .before .before .before .before .before .args in
     let l = c .before .before .before .before .loop in
-    let hit = seek-hit (holds (a.sets .now) a.a) (length (a.sets .now)) l.i _ (l .inv .1) (omega arith) (sym (c .before .subset .ensures) ∙ c .if2 .taken) in
+    let hit = seek-hit (holds (a.sets .now) a.a) (length (a.sets .now)) l.i _ (l .inv .1) (omega arith) (sym (c .before .within .ensures) ∙ c .if2 .taken) in
     sym (holder-at (a.sets .now) a.a l.i (c .before .before .before .before .before .if1 .left) hit (omega arith))
 
 loop-again : tie.Need-loop-again Inv-loop μ-loop
 loop-again c =
     let a = c .before .before .before .before .before .before .before .args in
     let l = c .before .before .before .before .loop in
-    (omega arith, seek-miss (holds (a.sets .now) a.a) (length (a.sets .now)) l.i _ (l .inv .1) (omega arith) (sym (c .before .subset .ensures) ∙ c .if2 .left))
+    (omega arith, seek-miss (holds (a.sets .now) a.a) (length (a.sets .now)) l.i _ (l .inv .1) (omega arith) (sym (c .before .within .ensures) ∙ c .if2 .left))
 
 returns-3 : tie.Need-returns-3 Inv-loop μ-loop
 unfolding place
@@ -45,8 +45,8 @@ returns-3 c =
     let end = seek-none (holds (a.sets .now) a.a) (length (a.sets .now)) l.i _ (l .inv .1) (omega arith) in
     sym (holder-none (a.sets .now) a.a l.i (c .before .before .if1 .left) end (omega arith))
 
-pub holder-of-spec : {M : Type 1} → statement M
-holder-of-spec =
+pub holder-spec : {M : Type 1} → statement M
+holder-spec =
     tie.close
     (tie.spec
     Inv-loop
