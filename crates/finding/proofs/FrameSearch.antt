@@ -15,7 +15,6 @@ use borrow.Author.Tests.{eq-eqb, lt-ltb, le-ltb, ltb-true, ltb-false}
 use Rattle.sets.proofs.Tests.{cases}
 use Rattle.schedule.specs.declared.rounds.Run.{Run}
 use Rattle.schedule.specs.declared.rounds.Round.{Round}
-use Rattle.protocol.specs.Sheet.{lines}
 use Rattle.hex.specs.Hex.{digit}
 use Rattle.protocol.specs.Playing.{findFrame}
 use Rattle.hex.specs.Bytes.{byteOf, byteAt, bytesFrom}

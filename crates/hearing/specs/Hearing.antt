@@ -10,7 +10,6 @@ use Rattle.protocol.specs.Limits.{frameRoom}
 use Rattle.protocol.specs.Rounds.{Board}
 use Rattle.protocol.specs.Calls.{isTaken, sending, dealing}
 use Rattle.protocol.specs.Sheet.{Frame}
-use Rattle.protocol.specs.Playing.{part}
 use Rattle.text.specs.declared.head.Head.{Head}
 use Rattle.stage.specs.declared.acting.Act.the-variants.{Hear, HearFaulty}
 use Rattle.stage.specs.Stage.{Stage, boardOn, actAll}

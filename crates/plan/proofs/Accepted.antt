@@ -9,7 +9,7 @@ use native.Mathlib.Omega.{arith}
 use lib.Dec.{leb, ltb}
 use lib.ListN.{length, replicate}
 use borrow.Author.Tests.{eq-eqb, ne-eqb, ltb-false, leb-false}
-use Rattle.refusals.specs.Outcome.{refused, refusal, andThen}
+use Rattle.refusals.specs.Outcome.{refused, andThen}
 use Rattle.plan.specs.declared.plan.Settings.{Settings}
 use Rattle.admission.specs.Calls.{admitting}
 use Rattle.plan.specs.Calls.{isDepth, judgeSettings, planning, planned, planOn, voidPlan, judged}

@@ -18,13 +18,14 @@ use Rattle.sets.proofs.Member.{within-empty}
 use Rattle.schedule.specs.Schedule.{steps}
 use Rattle.protocol.specs.Limits.{sheetMost, outputNeeded, cellsNeeded}
 use Rattle.protocol.specs.Session.{Setting, Boards, boardAt, at}
-use Rattle.protocol.specs.Sheet.{Head, Frame, headPlan, wrongAt, reading}
+use Rattle.protocol.specs.declared.head.Head.{Head}
+use Rattle.protocol.specs.Sheet.{Frame, wrongAt, reading}
 use Rattle.protocol.specs.Playing.{sheetAdversary, setting, finalBoards, printed, boardLine, printBoards, Play, refusedPlay, playHead, playing, refusalText, benchPrints}
 use Rattle.protocol.specs.Lists.{keeper}
 use Rattle.protocol.specs.Claims.{SessionAgreement}
 use Rattle.protocol.specs.Printed.{agreedLines, Printed}
 use Rattle.protocol.proofs.Session.{synchronous}
-use Rattle.protocol.proofs.Sheets.{GoodHead, sheet-head, head-n, head-dealer, sheet-sound}
+use Rattle.protocol.proofs.Sheets.{sheet-sound}
 
 -- A sheet that is played was read, and its cells are enough.
 passes : (b : Bool) (x y : Play) → x .answer .number ≢ 0 → cond b x y .answer .number ≡ 0 → (b ≡ false) × (cond b x y ≡ y)
@@ -47,76 +48,76 @@ played-head text cells out e =
 
 -- It prints the lines of its boards.
 prints-lines : (text cells out : List ℕ) → playing text cells out .answer .number ≡ 0
-    → benchPrints text cells out ≡ printBoards (reading text .head) (finalBoards (reading text .head) (reading text .frames) cells) 0 (reading text .head .n)
+    → benchPrints text cells out ≡ printBoards (reading text .head) (finalBoards (reading text .head) (reading text .frames) cells) 0 (reading text .head .plan .n)
 unfolding benchPrints playHead
 prints-lines text cells out e =
     let (_, _, x) = played-head text cells out e in
     let h = reading text .head in
-    let lines = printBoards h (finalBoards h (reading text .frames) cells) 0 (h .n) in
+    let lines = printBoards h (finalBoards h (reading text .frames) cells) 0 (h .plan .n) in
     ap shown x ∙ take-append-seam lines (drop (length lines) out)
   where
     shown : Play → List ℕ
     shown r = let first = getD (r .answer .values) 0 0 in cond (eqb (r .answer .number) 0) (take first (r .out)) (refusalText (r .answer .number) first)
 
-module _ (h : Head) (fs : List Frame) (cells : List ℕ) (g : GoodHead h) (agreed : SessionAgreement (setting h cells) (sheetAdversary h fs)) where
+module _ (h : Head) (fs : List Frame) (cells : List ℕ) (agreed : SessionAgreement (setting h cells) (sheetAdversary h fs)) where
   abbrev s : Setting
   s = setting h cells
 
   abbrev w : Boards
   w = finalBoards h fs cells
 
-  is-keeper : (i : ℕ) → i < h .n → member i (h .faulty) ≡ false → eqb i (h .dealer) ≡ false → keeper s i ≡ true
+  is-keeper : (i : ℕ) → i < h .plan .n → member i (h .faulty) ≡ false → eqb i (h .plan .dealer) ≡ false → keeper s i ≡ true
   unfolding keeper setting
   is-keeper i l out ne =
-      and-true (ltb i (headPlan h .n)) (not (member i (h .faulty)) && not (eqb i (headPlan h .dealer)))
-      (lt-ltb i (headPlan h .n) (omega (arith, head-n h g)))
-      (and-true (not (member i (h .faulty))) (not (eqb i (headPlan h .dealer))) (true-not (member i (h .faulty)) out)
-      (true-not (eqb i (headPlan h .dealer)) (ap (eqb i) (head-dealer h g) ∙ ne)))
+      and-true (ltb i (h .plan .n)) (not (member i (h .faulty)) && not (eqb i (h .plan .dealer)))
+      (lt-ltb i (h .plan .n) l)
+      (and-true (not (member i (h .faulty))) (not (eqb i (h .plan .dealer))) (true-not (member i (h .faulty)) out)
+      (true-not (eqb i (h .plan .dealer)) ne))
 
-  keeper-below : (i : ℕ) → keeper s i ≡ true → i < h .n
+  keeper-below : (i : ℕ) → keeper s i ≡ true → i < h .plan .n
   unfolding keeper setting
-  keeper-below i k = omega (arith, ltb-true i (headPlan h .n) (and-l (ltb i (headPlan h .n)) _ k), head-n h g)
+  keeper-below i k = ltb-true i (h .plan .n) (and-l (ltb i (h .plan .n)) _ k)
 
   -- The decision: the dealer's value, or what the first board that keeps cells has decided.
   record Chosen : Type 0 where
     decision : ℕ
     keepers : (i : ℕ) → keeper s i ≡ true → boardAt w i .rec .decision ≡ decision
-    dealers : member (h .dealer) (h .faulty) ≡ false → decision ≡ h .word
+    dealers : member (h .plan .dealer) (h .faulty) ≡ false → decision ≡ h .word
 
   chosen : Chosen
   unfolding setting finalBoards at
   chosen =
-      cases (member (h .dealer) (h .faulty))
-      (λ d. cases (any (keeper s) (h .n))
-      (λ a. let (k, _, kk) = any-true (keeper s) (h .n) a in
+      cases (member (h .plan .dealer) (h .faulty))
+      (λ d. cases (any (keeper s) (h .plan .n))
+      (λ a. let (k, _, kk) = any-true (keeper s) (h .plan .n) a in
       record { decision = boardAt w k .rec .decision; keepers = λ i ki. agreed .equal i k ki kk; dealers = λ x. clash d x })
-      (λ a. record { decision = 0; keepers = λ i ki. clash ki (any-false (keeper s) (h .n) a i (keeper-below i ki)); dealers = λ x. clash d x }))
+      (λ a. record { decision = 0; keepers = λ i ki. clash ki (any-false (keeper s) (h .plan .n) a i (keeper-below i ki)); dealers = λ x. clash d x }))
       (λ d. record {
         decision = h .word;
-        keepers = agreed .dealers (ap (λ x. member x (h .faulty)) (head-dealer h g) ∙ d);
+        keepers = agreed .dealers d;
         dealers = λ _. refl;
       })
 
   -- The lists: the dealer's is empty.
   lists : ℕ → ℕ
-  lists i = cond (eqb i (h .dealer)) 0 (boardAt w i .rec .detected)
+  lists i = cond (eqb i (h .plan .dealer)) 0 (boardAt w i .rec .detected)
 
-  lists-sound : (i : ℕ) → i < h .n → member i (h .faulty) ≡ false → within (lists i) (h .faulty) ≡ true
+  lists-sound : (i : ℕ) → i < h .plan .n → member i (h .faulty) ≡ false → within (lists i) (h .faulty) ≡ true
   unfolding lists setting finalBoards at
   lists-sound i l out =
-      cases (eqb i (h .dealer))
+      cases (eqb i (h .plan .dealer))
       (λ d. rw d (within-empty (h .faulty)))
-      (λ d. rw d (agreed .sound (steps (headPlan h)) i (omega arith) (is-keeper i l out d)))
+      (λ d. rw d (agreed .sound (steps (h .plan)) i (omega arith) (is-keeper i l out d)))
 
-  agreed-lines : (k i : ℕ) → i + k ≡ h .n → printBoards h w i k ≡ agreedLines h (chosen .decision) lists i k
+  agreed-lines : (k i : ℕ) → i + k ≡ h .plan .n → printBoards h w i k ≡ agreedLines h (chosen .decision) lists i k
   unfolding printBoards boardLine agreedLines lists
   agreed-lines zero i e = refl
   agreed-lines (suc k) i e =
       let ih = agreed-lines k (suc i) (omega arith) in
       cases (member i (h .faulty))
       (λ f. rw f ih)
-      (λ f. cases (eqb i (h .dealer))
-      (λ d. let v : chosen .decision ≡ h .word = chosen .dealers (ap (λ x. member x (h .faulty)) (sym (eqb-true i (h .dealer) d)) ∙ f) in
+      (λ f. cases (eqb i (h .plan .dealer))
+      (λ d. let v : chosen .decision ≡ h .word = chosen .dealers (ap (λ x. member x (h .faulty)) (sym (eqb-true i (h .plan .dealer) d)) ∙ f) in
       rw (f, d) (ap₂ (λ x y. printed i x 0 y) (sym v) ih))
       (λ d. rw (f, d) (ap₂ (λ x y. printed i x (boardAt w i .rec .detected) y) (chosen .keepers i (is-keeper i (omega arith) f d)) ih)))
 
@@ -126,12 +127,11 @@ printed-agreement text cells out e =
     let h = reading text .head in
     let fs = reading text .frames in
     let (ok, room, _) = played-head text cells out e in
-    let g = sheet-head text ok in
     let agreed = synchronous (setting h cells) (sheetAdversary h fs) (sheet-sound text cells ok room) in
     record {
-      decision = chosen h fs cells g agreed .decision;
-      lists = lists h fs cells g agreed;
-      prints = prints-lines text cells out e ∙ agreed-lines h fs cells g agreed (h .n) 0 (omega arith);
-      dealers = chosen h fs cells g agreed .dealers;
-      sound = lists-sound h fs cells g agreed;
+      decision = chosen h fs cells agreed .decision;
+      lists = lists h fs cells agreed;
+      prints = prints-lines text cells out e ∙ agreed-lines h fs cells agreed (h .plan .n) 0 (omega arith);
+      dealers = chosen h fs cells agreed .dealers;
+      sound = lists-sound h fs cells agreed;
     }

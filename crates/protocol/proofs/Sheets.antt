@@ -18,30 +18,49 @@ use Rattle.sets.proofs.Tests.{cases, and-l, and-r, or-r, not-f}
 use Rattle.plan.specs.declared.plan.Plan.{Plan}
 use Rattle.plan.specs.Listed.{listed}
 use Rattle.refusals.specs.Outcome.{Outcome, taken, refused}
-use Rattle.plan.specs.Calls.{planning, planOn, judged}
+use Rattle.plan.specs.Calls.{planning, planOn, judged, settingsOf}
 use Rattle.refusals.proofs.Outcomes.{passed, both-taken}
 use Rattle.plan.proofs.Accepted.{accepted, planned-taken, planned-judged}
 use Rattle.tree.specs.Places.{levelSize, levelStart, cellCount}
 use Rattle.tree.proofs.Below.{most}
 use Rattle.protocol.specs.Limits.{cellsNeeded}
-use Rattle.protocol.specs.Sheet.{Line, lineBytes, Head, headOf, headPlan, judgeHead, Frame, frameLine, goodFrame, Reading, wrongAt, refusedReading, addFrame, readFrames, readHead, readLines, lines, reading, headSettings}
+use Rattle.protocol.specs.declared.head.Head.{Head}
+use Rattle.protocol.specs.Sheet.{Line, lineBytes, setsPlace, headLength, headBoards, headCount, headSets, headSettings, headFaulty, headWord, headOf, judgeHead, Frame, frameLine, goodFrame, Reading, wrongAt, refusedReading, addFrame, readFrames, readHead, readLines, lines, reading}
 use Rattle.protocol.specs.Playing.{part, setting}
 use Rattle.protocol.specs.Lists.{keeper, Sound}
 
 -- What an accepted head meets.
 pub record GoodHead (h : Head) : Type 0 where
-  pub some-board : 0 < h .n
-  pub most-boards : h .n ≤ 7
-  pub dealer-below : h .dealer < h .n
-  pub word-below : h .word < h .span
-  pub faulty-within : within (h .faulty) (boards (h .n)) ≡ true
-  pub faulty-tolerated : tolerated (h .sets) (h .faulty) ≡ true
-  pub counted : length (h .sets) ≡ h .count
-  pub planned : planning (h .n) (length (h .sets)) (h .sets) (headSettings h) .number ≡ 0
+  pub accepted : judged (h .plan) .number ≡ 0
+  pub word-below : h .word < h .plan .span
+  pub faulty-within : within (h .faulty) (boards (h .plan .n)) ≡ true
+  pub faulty-tolerated : tolerated (listed (h .plan)) (h .faulty) ≡ true
 
-sets-size : (bytes : List ℕ) → length bytes ≡ 7 + headOf bytes .count → length (headOf bytes .sets) ≡ headOf bytes .count
-unfolding headOf
-sets-size bytes e = length-take-le (getD bytes 5 0) (drop 6 bytes) (omega (arith, length-drop 6 bytes))
+-- A head of its length has as many sets as it says.
+pub sets-size : (bytes : List ℕ) → length bytes ≡ headLength (headCount bytes) → length (headSets bytes) ≡ headCount bytes
+sets-size bytes e = length-take-le (headCount bytes) (drop setsPlace bytes) (omega (arith, length-drop setsPlace bytes))
+
+-- The plan that an accepted head names.
+module _ (bytes : List ℕ) (ok : planning (headBoards bytes) (length (headSets bytes)) (headSets bytes) (headSettings bytes) .number ≡ 0) where
+  plan-on : headOf bytes .plan ≡ planOn (headBoards bytes) (headSets bytes) (headSettings bytes)
+  unfolding headOf
+  plan-on = planned-taken (headBoards bytes) (headSets bytes) (headSettings bytes) ok
+
+  plan-n : headOf bytes .plan .n ≡ headBoards bytes
+  unfolding planOn
+  plan-n = ap (λ (p : Plan). p .n) plan-on
+
+  plan-span : headOf bytes .plan .span ≡ headSettings bytes .span
+  unfolding planOn
+  plan-span = ap (λ (p : Plan). p .span) plan-on
+
+  plan-listed : listed (headOf bytes .plan) ≡ headSets bytes
+  unfolding planOn listed
+  plan-listed = ap listed plan-on ∙ take-append-seam (headSets bytes) (replicate (32 - length (headSets bytes)) 0)
+
+  plan-judged : judged (headOf bytes .plan) .number ≡ 0
+  unfolding headOf
+  plan-judged = ap (λ (o : Outcome). o .number) (planned-judged (headBoards bytes) (headSets bytes) (headSettings bytes) ok) ∙ ok
 
 -- A test that must hold does where nothing is refused.
 not-refused : (b : Bool) (refuse : Outcome) → refuse .number ≢ 0 → cond b (taken []) refuse .number ≡ 0 → b ≡ true
@@ -49,29 +68,28 @@ not-refused true refuse l e = refl
 not-refused false refuse l e = absurd (l e)
 
 -- An accepted head's bytes.
-head-good : (bytes : List ℕ) → judgeHead bytes .number ≡ 0 → GoodHead (headOf bytes)
-unfolding judgeHead
+pub head-good : (bytes : List ℕ) → judgeHead bytes .number ≡ 0 → GoodHead (headOf bytes)
+unfolding judgeHead headOf
 head-good bytes e =
-    let h = headOf bytes in
-    let (e1, e2) = passed (ltb (length bytes) 7 || not (eqb (length bytes) (7 + h .count))) (refused 22) _ (omega arith) e in
-    let whole : length bytes ≡ 7 + h .count =
-    eqb-true (length bytes) (7 + h .count) (not-f (eqb (length bytes) (7 + h .count)) (or-r (ltb (length bytes) 7) (not (eqb (length bytes) (7 + h .count))) e1)) in
-    let (e3, e4) = both-taken (planning (h .n) (h .count) (h .sets) (headSettings h)) _ e2 in
-    let (e5, e6) = both-taken _ _ e4 in
-    let inside = within (h .faulty) (boards (h .n)) in
-    let borne = tolerated (h .sets) (h .faulty) in
-    let both = not-refused (inside && borne) (refused 23) (omega arith) e6 in
-    let f = accepted (h .n) (h .count) (h .sets) (headSettings h) e3 in
-    let size = sets-size bytes whole in
+    let n = headBoards bytes in
+    let s = headCount bytes in
+    let short = ltb (length bytes) (headLength 0) in
+    let uneven = not (eqb (length bytes) (headLength s)) in
+    let (sized, judgements) = passed (short || uneven) (refused 22) _ (omega arith) e in
+    let whole : length bytes ≡ headLength s = eqb-true (length bytes) (headLength s) (not-f (eqb (length bytes) (headLength s)) (or-r short uneven sized)) in
+    let (plan, later) = both-taken (planning n s (headSets bytes) (headSettings bytes)) _ judgements in
+    let (word, faulty) = both-taken _ _ later in
+    let inside = within (headFaulty bytes) (boards n) in
+    let borne = tolerated (headSets bytes) (headFaulty bytes) in
+    let both = not-refused (inside && borne) (refused 23) (omega arith) faulty in
+    let ok = subst (λ c. planning n c (headSets bytes) (headSettings bytes) .number ≡ 0) (sym (sets-size bytes whole)) plan in
+    let span = headSettings bytes .span in
+    let below = leb-false span (headWord bytes) (passed (leb span (headWord bytes)) (refused 18) (taken []) (omega arith) word .0) in
     record {
-      some-board = f .admission .some-board;
-      most-boards = f .admission .most-boards;
-      dealer-below = f .dealer-below;
-      word-below = leb-false (h .span) (h .word) (passed (leb (h .span) (h .word)) (refused 18) (taken []) (omega arith) e5 .0);
-      faulty-within = and-l inside borne both;
-      faulty-tolerated = and-r inside borne both;
-      counted = size;
-      planned = subst (λ c. planning (h .n) c (h .sets) (headSettings h) .number ≡ 0) (sym size) e3;
+      accepted = plan-judged bytes ok;
+      word-below = subst (λ m. headWord bytes < m) (sym (plan-span bytes ok)) below;
+      faulty-within = ap (λ k. within (headFaulty bytes) (boards k)) (plan-n bytes ok) ∙ and-l inside borne both;
+      faulty-tolerated = ap (λ sets. tolerated sets (headFaulty bytes)) (plan-listed bytes ok) ∙ and-r inside borne both;
     }
 
 -- Reading line by line: what each case leaves.
@@ -145,31 +163,10 @@ pub sheet-head : (text : List ℕ) → reading text .answer .number ≡ 0 → Go
 unfolding reading
 sheet-head text e = lines-good (lines text) e
 
--- The plan of an accepted head.
-module _ (h : Head) (g : GoodHead h) where
-  plan-on : headPlan h ≡ planOn (h .n) (h .sets) (headSettings h)
-  unfolding headPlan
-  plan-on = planned-taken (h .n) (h .sets) (headSettings h) (g .planned)
-
-  pub head-n : headPlan h .n ≡ h .n
-  unfolding planOn
-  head-n = ap (λ (p : Plan). p .n) plan-on
-
-  pub head-dealer : headPlan h .dealer ≡ h .dealer
-  unfolding planOn
-  head-dealer = ap (λ (p : Plan). p .dealer) plan-on
-
-  pub head-span : headPlan h .span ≡ h .span
-  unfolding planOn
-  head-span = ap (λ (p : Plan). p .span) plan-on
-
-  pub head-listed : listed (headPlan h) ≡ h .sets
-  unfolding planOn listed
-  head-listed = ap listed plan-on ∙ take-append-seam (h .sets) (replicate (32 - length (h .sets)) 0)
-
-  pub head-judged : judged (headPlan h) .number ≡ 0
-  unfolding headPlan
-  head-judged = ap (λ (o : Outcome). o .number) (planned-judged (h .n) (h .sets) (headSettings h) (g .planned)) ∙ g .planned
+-- At most seven boards.
+pub few-boards : (h : Head) → GoodHead h → h .plan .n ≤ 7
+unfolding judged
+few-boards h g = accepted (h .plan .n) (h .plan .count) (listed (h .plan)) (settingsOf (h .plan)) (g .accepted) .admission .most-boards
 
 -- The cells of all boards.
 pub parts-most : (n : ℕ) → n ≤ 7 → n * cellCount n ≤ cellsNeeded
@@ -191,10 +188,10 @@ sheet-sound text cells e room =
     let h = reading text .head in
     let g = sheet-head text e in
     record {
-      accepted = head-judged h g;
-      tolerable = ap (λ sets. tolerated sets (h .faulty)) (head-listed h g) ∙ g .faulty-tolerated;
-      word-below = λ _. subst (λ m. h .word < m) (sym (head-span h g)) (g .word-below);
+      accepted = g .accepted;
+      tolerable = g .faulty-tolerated;
+      word-below = λ _. g .word-below;
       cells-enough = λ i k.
-          let below : i < headPlan h .n = ltb-true i (headPlan h .n) (and-l (ltb i (headPlan h .n)) _ k) in
-          omega (arith, ap cellCount (head-n h g), part-length (h .n) i cells (g .most-boards) (omega (arith, head-n h g)) room);
+          let below : i < h .plan .n = ltb-true i (h .plan .n) (and-l (ltb i (h .plan .n)) _ k) in
+          omega (arith, part-length (h .plan .n) i cells (few-boards h g) below room);
     }

@@ -16,7 +16,8 @@ use Rattle.tree.specs.Places.{cellCount}
 use Rattle.protocol.specs.Limits.{sheetMost, outputNeeded, cellsNeeded}
 use Rattle.protocol.specs.Listing.{asSet}
 use Rattle.protocol.specs.Session.{Adversary, Setting, Boards, boardAt, session}
-use Rattle.protocol.specs.Sheet.{Head, Frame, headPlan, wrongAt, reading}
+use Rattle.protocol.specs.declared.head.Head.{Head}
+use Rattle.protocol.specs.Sheet.{Frame, wrongAt, reading}
 
 -- The bytes of the sheet's frame for a run, a round, a sender and a receiver, if it has one.
 unfoldable pub findFrame : Run → Round → ℕ → ℕ → List Frame → Option (List ℕ)
@@ -32,7 +33,7 @@ decoded (some f) = some (decode f)
 
 -- What the faulty boards do: step j, from 0, is round number j + 1 over all runs.
 unfoldable pub sheetAdversary : Head → List Frame → Adversary
-sheetAdversary h fs i j q = let p = headPlan h in decoded (findFrame (stepRun p (suc j)) (stepRound p (suc j)) q i fs)
+sheetAdversary h fs i j q = let p = h .plan in decoded (findFrame (stepRun p (suc j)) (stepRound p (suc j)) q i fs)
 
 -- 01: "Board i's part starts at i times the cells for n".
 unfoldable pub part : ℕ → ℕ → List ℕ → List ℕ
@@ -42,11 +43,11 @@ unfoldable pub replacePart : ℕ → ℕ → List ℕ → List ℕ → List ℕ
 replacePart n i new cells = take (i * cellCount n) cells ++ (new ++ drop (i * cellCount n + cellCount n) cells)
 
 unfoldable pub setting : Head → List ℕ → Setting
-setting h cells = record { plan = headPlan h; faulty = h .faulty; word = h .word; buffer = λ i. part (h .n) i cells }
+setting h cells = record { plan = h .plan; faulty = h .faulty; word = h .word; buffer = λ i. part (h .plan .n) i cells }
 
 -- All boards at the end.
 unfoldable pub finalBoards : Head → List Frame → List ℕ → Boards
-finalBoards h fs cells = session (setting h cells) (sheetAdversary h fs) (steps (headPlan h))
+finalBoards h fs cells = session (setting h cells) (sheetAdversary h fs) (steps (h .plan))
 
 -- A value as the digits of its bytes.
 unfoldable pub hexValue : ℕ → List ℕ → List ℕ
@@ -61,7 +62,7 @@ unfoldable pub boardLine : Head → Boards → ℕ → List ℕ → List ℕ
 boardLine h w i rest =
     let b = boardAt w i in
     cond (member i (h .faulty)) rest
-    (cond (eqb i (h .dealer)) (printed i (h .word) 0 rest) (printed i (b .rec .decision) (asSet (b .rec .detected)) rest))
+    (cond (eqb i (h .plan .dealer)) (printed i (h .word) 0 rest) (printed i (b .rec .decision) (asSet (b .rec .detected)) rest))
 
 -- The lines of the boards i to i + k - 1.
 unfoldable pub printBoards : Head → Boards → ℕ → ℕ → List ℕ
@@ -73,8 +74,8 @@ unfoldable pub finalCells : Head → Boards → ℕ → List ℕ → List ℕ
 finalCells h w zero cells = cells
 finalCells h w (suc k) cells =
     let rest = finalCells h w k cells in
-    let new = replacePart (h .n) k (boardAt w k .cells) rest in
-    cond (member k (h .faulty) || eqb k (h .dealer)) rest new
+    let new = replacePart (h .plan .n) k (boardAt w k .cells) rest in
+    cond (member k (h .faulty) || eqb k (h .plan .dealer)) rest new
 
 -- What playing leaves: the answer, the cells and the output.
 pub record Play : Type 0 where
@@ -89,8 +90,8 @@ refusedPlay o cells out = record { answer = o; cells = cells; out = out }
 unfoldable pub playHead : Head → List Frame → List ℕ → List ℕ → Play
 playHead h fs cells out =
     let w = finalBoards h fs cells in
-    let text = printBoards h w 0 (h .n) in
-    record { answer = taken (length text ∷ []); cells = finalCells h w (h .n) cells; out = text ++ drop (length text) out }
+    let text = printBoards h w 0 (h .plan .n) in
+    record { answer = taken (length text ∷ []); cells = finalCells h w (h .plan .n) cells; out = text ++ drop (length text) out }
 
 -- 01, 'Playing a sheet': 20, 17, 11, then line by line. Values of a refusal begin with its line, 0 if it is no line's.
 unfoldable pub playing : List ℕ → List ℕ → List ℕ → Play

@@ -4,7 +4,8 @@ use mathlib.Core.Path.{_≡_}
 use mathlib.Core.Bool.{true, false, cond}
 use mathlib.Core.List.{List, []}
 use Rattle.sets.specs.Sets.{member, within}
-use Rattle.protocol.specs.Sheet.{Head, reading}
+use Rattle.protocol.specs.declared.head.Head.{Head}
+use Rattle.protocol.specs.Sheet.{reading}
 use Rattle.protocol.specs.Playing.{printed, playing, benchPrints}
 
 -- The lines of those boards i to i + k - 1 that are outside F, rising: the board, one decision, and the board's list.
@@ -18,11 +19,11 @@ pub record PrintedAgreement (h : Head) (text : List ℕ) : Type 0 where
   pub decision : ℕ
   pub lists : ℕ → ℕ
   -- the text is a line for each board outside F, all with one decision
-  pub prints : text ≡ agreedLines h decision lists 0 (h .n)
+  pub prints : text ≡ agreedLines h decision lists 0 (h .plan .n)
   -- the dealer's value, if the dealer is outside F
-  pub dealers : member (h .dealer) (h .faulty) ≡ false → decision ≡ h .word
+  pub dealers : member (h .plan .dealer) (h .faulty) ≡ false → decision ≡ h .word
   -- each list lies within F
-  pub sound : (i : ℕ) → i < h .n → member i (h .faulty) ≡ false → within (lists i) (h .faulty) ≡ true
+  pub sound : (i : ℕ) → i < h .plan .n → member i (h .faulty) ≡ false → within (lists i) (h .faulty) ≡ true
 
 -- What the program bench prints for a sheet that is not turned down obeys demand 3.
 abbrev pub Printed : Type 0

@@ -9,13 +9,13 @@ use Rattle.codec.specs.Codec.{width, numberAt}
 use Rattle.hex.specs.Hex.{bytesOf}
 use Rattle.sets.specs.Sets.{member, within, boards}
 use Rattle.sets.specs.Structure.{tolerated}
-use Rattle.plan.specs.declared.plan.Plan.{Plan}
 use Rattle.plan.specs.declared.plan.Settings.{Settings}
 use Rattle.schedule.specs.declared.rounds.Run.{Run}
 use Rattle.schedule.specs.declared.rounds.Round.{Round}
 use Rattle.schedule.specs.Schedule.{hasRound}
 use Rattle.refusals.specs.Outcome.{Outcome, taken, refused, andThen}
 use Rattle.plan.specs.Calls.{planning, planned}
+use Rattle.protocol.specs.declared.head.Head.{Head}
 use Rattle.protocol.specs.Nodes.{due}
 
 -- A line, and whether a newline ends it.
@@ -39,18 +39,8 @@ lines (c ∷ cs) =
 unfoldable pub lineBytes : Line → Option (List ℕ)
 lineBytes l = let bytes = bytesOf (l .text) in cond (l .ended) bytes none
 
--- 01: "The head is n, m, d, b, the dealer's value, s, then s sets, then F".
-pub record Head : Type 0 where
-  pub n : ℕ
-  pub span : ℕ
-  pub dealer : ℕ
-  pub depth : ℕ
-  pub word : ℕ
-  pub count : ℕ
-  pub sets : List ℕ
-  pub faulty : ℕ
-
--- Where each stands; m and the dealer's value have a value's bytes, the others one. n stands at 0.
+-- 01: "The head is n, m, d, b, the dealer's value, s, then s sets, then F". Where each stands; m and the dealer's value have a
+-- value's bytes, the others one. n stands at 0.
 abbrev pub spanPlace : ℕ
 spanPlace = 1
 
@@ -73,35 +63,41 @@ setsPlace = countPlace + 1
 abbrev pub headLength : ℕ → ℕ
 headLength s = setsPlace + 1 + s
 
+-- What a head's bytes name: the number of boards, of sets, the sets, the settings, the faulty boards and the dealer's value.
+abbrev pub headBoards : List ℕ → ℕ
+headBoards bytes = getD bytes 0 0
+
+abbrev pub headCount : List ℕ → ℕ
+headCount bytes = getD bytes countPlace 0
+
+abbrev pub headSets : List ℕ → List ℕ
+headSets bytes = take (headCount bytes) (drop setsPlace bytes)
+
+abbrev pub headSettings : List ℕ → Settings
+headSettings bytes = record { dealer = getD bytes dealerPlace 0; span = numberAt bytes spanPlace; depth = getD bytes depthPlace 0 }
+
+abbrev pub headFaulty : List ℕ → ℕ
+headFaulty bytes = getD bytes (setsPlace + headCount bytes) 0
+
+abbrev pub headWord : List ℕ → ℕ
+headWord bytes = numberAt bytes wordPlace
+
+-- The head: its plan, the faulty boards and the dealer's value.
 unfoldable pub headOf : List ℕ → Head
-headOf bytes =
-    let s = getD bytes countPlace 0 in
-    record {
-      n = getD bytes 0 0;
-      span = numberAt bytes spanPlace;
-      dealer = getD bytes dealerPlace 0;
-      depth = getD bytes depthPlace 0;
-      word = numberAt bytes wordPlace;
-      count = s;
-      sets = take s (drop setsPlace bytes);
-      faulty = getD bytes (setsPlace + s) 0;
-    }
-
--- The settings that it names.
-abbrev pub headSettings : Head → Settings
-headSettings h = record { dealer = h .dealer; span = h .span; depth = h .depth }
-
-unfoldable pub headPlan : Head → Plan
-headPlan h = planned (h .n) (h .sets) (headSettings h)
+headOf bytes = record {
+  plan = planned (headBoards bytes) (headSets bytes) (headSettings bytes);
+  faulty = headFaulty bytes;
+  word = headWord bytes;
+}
 
 -- 01, 'Playing a sheet', head: 22; 1 to 8; 18; 23.
 unfoldable pub judgeHead : List ℕ → Outcome
 judgeHead bytes =
-    let h = headOf bytes in
-    let word = cond (leb (h .span) (h .word)) (refused 18) (taken []) in
-    let faulty = cond (within (h .faulty) (boards (h .n)) && tolerated (h .sets) (h .faulty)) (taken []) (refused 23) in
-    cond (ltb (length bytes) (headLength 0) || not (eqb (length bytes) (headLength (h .count)))) (refused 22)
-    (andThen (planning (h .n) (h .count) (h .sets) (headSettings h)) (andThen word faulty))
+    let plan = planning (headBoards bytes) (headCount bytes) (headSets bytes) (headSettings bytes) in
+    let word = cond (leb (headSettings bytes .span) (headWord bytes)) (refused 18) (taken []) in
+    let faulty = cond (within (headFaulty bytes) (boards (headBoards bytes)) && tolerated (headSets bytes) (headFaulty bytes)) (taken []) (refused 23) in
+    cond (ltb (length bytes) (headLength 0) || not (eqb (length bytes) (headLength (headCount bytes)))) (refused 22)
+    (andThen plan (andThen word faulty))
 
 -- 01: "Then one frame a line: run, round, sender, receiver, values". The values are kept as their bytes.
 pub record Frame : Type 0 where
@@ -132,7 +128,7 @@ rises (some f) g =
 -- Number 24: "under four bytes, not rising, sender not in F, receiver in F or d or not below n, or no frame due from that sender then".
 unfoldable pub goodFrame : Head → Option Frame → List ℕ → Bool
 goodFrame h before bytes =
-    let p = headPlan h in
+    let p = h .plan in
     let f = frameLine bytes in
     (leb 4 (length bytes) && (rises before f && member (f .sender) (h .faulty)))
     && ((not (member (f .receiver) (h .faulty)) && hasRound p (f .run) (f .round))

@@ -1,5 +1,7 @@
-// Where the parts of a head stand, in bytes; n stands first. Their definitions stand in specs/Sheet.
+// The head of a sheet, and where its parts stand, in bytes; n stands first. Their definitions stand in specs/Sheet.
+use codec::value::Value;
 use codec::value::WIDTH;
+use plan::plan::Plan;
 
 // The span, m.
 pub const SPAN: usize = 1;
@@ -18,3 +20,12 @@ pub const COUNT: usize = WORD + WIDTH;
 
 // The first of the s sets; the faulty boards, F, stand behind them.
 pub const SETS: usize = COUNT + 1;
+
+// The head of a sheet: the plan that it names, the faulty boards, and the dealer's value.
+pub struct Head {
+    pub plan: Plan,
+    // The faulty boards, F.
+    pub faulty: u8,
+    // The dealer's value.
+    pub word: Value,
+}

@@ -1,5 +1,5 @@
 -- What is judged of a sheet, line by line.
-use Prim.Native.Nat.{ℕ, _+_, _-_, _/_}
+use Prim.Native.Nat.{ℕ, _+_, _/_}
 use mathlib.Core.Bool.{Bool, not, _&&_, cond}
 use mathlib.Core.List.{List, [], _∷_}
 use lib.Dec.{eqb, leb}
@@ -11,7 +11,7 @@ use Rattle.schedule.specs.declared.rounds.Round.{Round}
 use Rattle.schedule.specs.Schedule.{hasRound}
 use Rattle.refusals.specs.Outcome.{Outcome, taken, refused, verdict}
 use Rattle.protocol.specs.Nodes.{due}
-use Rattle.protocol.specs.Sheet.{Line, lines, judgeHead, wrongAt}
+use Rattle.protocol.specs.Sheet.{Line, judgeHead, wrongAt}
 use Rattle.hex.specs.Bytes.{isText, bytesFrom}
 use Rattle.reader.specs.declared.judgement.Judged.{Judged}
 use Rattle.finding.specs.Frames.{lineFrame, lineKey}

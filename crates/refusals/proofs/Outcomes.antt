@@ -9,7 +9,7 @@ use lib.Dec.{eqb}
 use borrow.Author.Tests.{eq-eqb, ne-eqb, eqb-true, eqb-false}
 use Rattle.refusals.specs.declared.refusal.Refusal.{Refusal}
 use Rattle.refusals.specs.declared.refusal.Refusal.the-variants.{Boards, NoSets, TooManySets, UnknownBoard, Covered, Dealer, Span, Depth, BoardNumber, BoardIsDealer, ShortCells, BadRecord, Decided, NotDue, AlreadyTaken, NothingToSend, ShortOutput, BadValue, Undecided, LongSheet, BadText, BadHead, BadFaulty, BadFrame}
-use Rattle.refusals.specs.Outcome.{Outcome, refused, refusal, andThen}
+use Rattle.refusals.specs.Outcome.{Outcome, refusal, andThen}
 use Rattle.sets.proofs.Tests.{cases}
 
 pub refusal-number : (why : Refusal) → refusal why .number ≢ 0

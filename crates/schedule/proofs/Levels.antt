@@ -14,7 +14,6 @@ use mathlib.Core.Bool.{true, false, not, cond}
 use mathlib.Core.List.{List}
 use Rattle.sets.specs.Sets.{member, size}
 use Rattle.plan.specs.declared.plan.Plan.{Plan}
-use Rattle.plan.specs.Listed.{listed}
 use Rattle.schedule.specs.Schedule.{ceilDiv, largest, height, isCut, rounds, runs}
 use Rattle.sets.proofs.Tests.{cases, and-l, and-r, not-t}
 

@@ -1,3 +1,2 @@
-// The text of a sheet: its lines and its head.
-pub mod head;
+// The lines of a sheet.
 pub mod lines;

@@ -2,7 +2,7 @@
 -- Assumes nothing.
 use mathlib.Core.Path.{refl}
 use borrow.Author.Tests.{lt-leb, le-leb}
-use Rattle.refusals.specs.Outcome.{taken, refusal, verdict}
+use Rattle.refusals.specs.Outcome.{refusal, verdict}
 use Rattle.beginning.proofs.dealing.judge_value.Statement.{statement}
 use Rattle.beginning.proofs.dealing.judge_value.Tie as tie
 

@@ -1,7 +1,7 @@
 -- `judge_undecided` meets its contract: 19.
 -- Assumes nothing.
 use mathlib.Core.Path.{refl}
-use Rattle.refusals.specs.Outcome.{taken, refusal, verdict}
+use Rattle.refusals.specs.Outcome.{refusal, verdict}
 use Rattle.deciding.proofs.deciding.judge_undecided.Statement.{statement}
 use Rattle.deciding.proofs.deciding.judge_undecided.Tie as tie
 

@@ -5,7 +5,7 @@ use mathlib.Core.Path.{refl, subst}
 use lib.ListN.{length}
 use borrow.Author.Needs.{needs}
 use borrow.Author.Tests.{lt-ltb, le-ltb}
-use Rattle.refusals.specs.Outcome.{taken, refusal, verdict}
+use Rattle.refusals.specs.Outcome.{refusal, verdict}
 use Rattle.judging.proofs.judging.judge_cells.Statement.{statement}
 use Rattle.judging.proofs.judging.judge_cells.Tie as tie
 

@@ -1,7 +1,7 @@
 -- `judge_decided` meets its contract: 13.
 -- Assumes nothing.
 use mathlib.Core.Path.{refl}
-use Rattle.refusals.specs.Outcome.{taken, refusal, verdict}
+use Rattle.refusals.specs.Outcome.{refusal, verdict}
 use Rattle.judging.proofs.judging.judge_decided.Statement.{statement}
 use Rattle.judging.proofs.judging.judge_decided.Tie as tie
 

@@ -2,7 +2,7 @@
 -- Assumes nothing.
 use mathlib.Core.Path.{refl, sym, _∙_}
 use borrow.Author.Needs.{needs}
-use Rattle.refusals.specs.Outcome.{taken, refusal, verdict}
+use Rattle.refusals.specs.Outcome.{refusal, verdict}
 use Rattle.protocol.specs.Calls.{judgeRecord}
 use Rattle.judging.proofs.judging.judge_record.Statement.{statement}
 use Rattle.judging.proofs.judging.judge_record.Tie as tie

@@ -6,8 +6,6 @@ use native.Mathlib.Omega.{arith}
 use lib.Dec.{eqb}
 use lib.ListN.{length, getD}
 use borrow.Author.Tests.{eq-eqb, ne-eqb}
-use Rattle.refusals.specs.Outcome.{taken}
-use Rattle.protocol.specs.Rounds.{close}
 use Rattle.sets.proofs.Search.{seek-hit, seek-miss, seek-none}
 use Rattle.sets.specs.Search.{first}
 use Rattle.text.proofs.lines.line_end.Statement.{statement}

@@ -5,7 +5,6 @@ use mathlib.Core.Path.{_≡_, sym, ap, _∙_}
 use native.Mathlib.Omega.{arith}
 use lib.ListN.{length, take, drop, drop-of-length-le, length-drop}
 use borrow.Author.Needs.{needs}
-use Rattle.protocol.specs.Rounds.{close}
 use lib.Seq.{take-all}
 use Rattle.text.proofs.lines.values_of.Statement.{statement}
 use Rattle.text.proofs.lines.values_of.Tie as tie

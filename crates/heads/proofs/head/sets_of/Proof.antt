@@ -5,10 +5,9 @@ use mathlib.Core.Path.{_≡_, ap, ap₂, _∙_}
 use native.Mathlib.Omega.{arith}
 use lib.ListN.{set}
 use borrow.Author.Needs.{needs}
-use Rattle.protocol.specs.Rounds.{close}
-use Rattle.text.proofs.Heads.{slots, slots-start, slots-more}
-use Rattle.text.proofs.head.sets_of.Statement.{statement}
-use Rattle.text.proofs.head.sets_of.Tie as tie
+use Rattle.heads.proofs.Heads.{slots, slots-start, slots-more}
+use Rattle.heads.proofs.head.sets_of.Statement.{statement}
+use Rattle.heads.proofs.head.sets_of.Tie as tie
 
 abbrev Inv-loop : tie.InvT-loop
 Inv-loop line count sets₀ k₀ sets k = (k ≤ count) × (sets ≡ slots line k)

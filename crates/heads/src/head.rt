@@ -1,5 +1,4 @@
 // The head of a sheet: n, m, d, b, the dealer's value, s, then s sets, then the faulty boards.
-use crate::lines::number_at;
 use codec::value::Value;
 use hex::reading::byte_at;
 use plan::plan::Plan;
@@ -7,6 +6,7 @@ use plan::plan::Settings;
 use protocol::head::COUNT;
 use protocol::head::DEALER;
 use protocol::head::DEPTH;
+use protocol::head::Head;
 use protocol::head::SETS;
 use protocol::head::SPAN;
 use protocol::head::WORD;
@@ -17,18 +17,19 @@ use sets::boards::all_boards;
 use sets::boards::within;
 use sets::holders::holders_of;
 use sets::holders::holds;
+use text::lines::number_at;
 ghost use mathlib.Core.Path.{_≡_};
 ghost use mathlib.Core.Bool.{_&&_, cond};
 ghost use mathlib.Core.List.{[], _++_};
-ghost use Prim.Native.Nat.{_-_, _/_, _≤_, min};
+ghost use Prim.Native.Nat.{_-_, _≤_, min};
 ghost use lib.Dec.{leb};
 ghost use lib.ListN.{length, replicate};
 ghost use Rattle.sets.specs.Sets.{within, boards};
 ghost use Rattle.sets.specs.Structure.{tolerated};
 ghost use Rattle.refusals.specs.Outcome.{taken, refused, verdict};
-ghost use Rattle.protocol.specs.Sheet.{setsPlace, judgeHead};
+ghost use Rattle.protocol.specs.Sheet.{setsPlace};
 ghost use Rattle.hex.specs.Bytes.{bytesFrom};
-ghost use Rattle.text.specs.Text.{lineSettings, headFrom};
+ghost use Rattle.heads.specs.Heads.{lineSettings, HeadRead};
 
 // The sets of a head, in 255 slots.
 fn sets_of(line: &[u8], count: u8) -> [u8; 255]
@@ -93,49 +94,41 @@ fn judge_faulty(n: u8, sets: &[u8], faulty: u8) -> Verdict
     Verdict::Refused(Refusal::BadFaulty)
 }
 
-// What playing needs of a head.
-pub struct Head {
-    pub plan: Plan,
-    // The faulty boards, F.
-    pub faulty: u8,
-    // The dealer's value.
-    pub word: Value,
-}
-
-// The head of a sheet that is accepted.
-pub fn head_of(line: &[u8]) -> Head
-    ensures { λ r. ⌜ r ≡ headFrom (now (line .entry)) ⌝ }
-{
-    let count = byte_at(line, COUNT);
-    let sets = sets_of(line, count);
-    let settings = settings_of(line);
-    let planned = Plan::new(byte_at(line, 0), &sets[0..count as usize], settings);
-    let plan = planned.plan;
-    let faulty = byte_at(line, count as usize + SETS);
-    let word = number_at(line, WORD);
-    Head {
-        plan: plan,
-        faulty: faulty,
-        word: word,
-    }
+// A head that was read: the verdict on it, and the head.
+pub struct ReadHead {
+    pub verdict: Verdict,
+    pub head: Head,
 }
 
 // The head, whose line is digits: 22, then 1 to 8, 18, 23.
-pub fn judge_head(line: &[u8]) -> Verdict
-    ensures { λ v. ⌜ verdict v ≡ judgeHead (bytesFrom (now (line .entry)) 0 (length (now (line .entry)) / 2)) ⌝ }
+pub fn read_head(line: &[u8]) -> ReadHead
+    ensures { λ r. ⌜ HeadRead (now (line .entry)) r ⌝ }
 {
     let count = byte_at(line, COUNT);
-    let bytes = line.len() / 2;
-    let last = count as usize + SETS;
-    if bytes != last + 1 {
-        return Verdict::Refused(Refusal::BadHead);
-    }
     let sets = sets_of(line, count);
     let n = byte_at(line, 0);
     let settings = settings_of(line);
     let planned = Plan::new(n, &sets[0..count as usize], settings);
-    let plan = planned.answer;
-    let word = judge_word(settings.span, number_at(line, WORD));
-    let faulty = judge_faulty(n, &sets[0..count as usize], byte_at(line, last));
-    and_then(plan, and_then(word, faulty))
+    let word = number_at(line, WORD);
+    let last = count as usize + SETS;
+    let faulty = byte_at(line, last);
+    let plan = planned.plan;
+    let head = Head {
+        plan: plan,
+        faulty: faulty,
+        word: word,
+    };
+    if line.len() / 2 != last + 1 {
+        return ReadHead {
+            verdict: Verdict::Refused(Refusal::BadHead),
+            head: head,
+        };
+    }
+    let worded = judge_word(settings.span, word);
+    let borne = judge_faulty(n, &sets[0..count as usize], faulty);
+    let answer = planned.answer;
+    ReadHead {
+        verdict: and_then(answer, and_then(worded, borne)),
+        head: head,
+    }
 }

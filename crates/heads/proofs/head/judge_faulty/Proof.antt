@@ -13,8 +13,8 @@ use Rattle.sets.proofs.Held.{table-length, table-tolerated}
 use Rattle.sets.proofs.Member.{within-boards}
 use Rattle.sets.proofs.Tests.{not-t, not-f}
 use Rattle.refusals.specs.Outcome.{refusal, verdict}
-use Rattle.text.proofs.head.judge_faulty.Statement.{statement}
-use Rattle.text.proofs.head.judge_faulty.Tie as tie
+use Rattle.heads.proofs.head.judge_faulty.Statement.{statement}
+use Rattle.heads.proofs.head.judge_faulty.Tie as tie
 
 -- The set names boards of the plan, or not.
 named : (c : tie.After-within) → let a = c .before .before .before .before .args in c .within .result ≡ within a.faulty (boards (min a.n 7))

@@ -3,10 +3,9 @@
 use Prim.Native.Nat.{_-_}
 use mathlib.Core.Path.{refl}
 use borrow.Author.Tests.{lt-leb, le-leb}
-use Rattle.refusals.specs.Outcome.{taken, refusal, verdict}
-use Rattle.protocol.specs.Rounds.{close}
-use Rattle.text.proofs.head.judge_word.Statement.{statement}
-use Rattle.text.proofs.head.judge_word.Tie as tie
+use Rattle.refusals.specs.Outcome.{refusal, verdict}
+use Rattle.heads.proofs.head.judge_word.Statement.{statement}
+use Rattle.heads.proofs.head.judge_word.Tie as tie
 
 returns : tie.Need-returns
 unfolding verdict refusal

@@ -18,12 +18,12 @@ use Rattle.sets.proofs.Tests.{cases, or-right, true-not}
 use Rattle.refusals.specs.Outcome.{Outcome, taken, refused, andThen}
 use Rattle.plan.specs.declared.plan.Plan.{Plan}
 use Rattle.plan.specs.declared.plan.Settings.{Settings}
-use Rattle.plan.specs.Calls.{planning, planned, judged}
-use Rattle.refusals.proofs.Outcomes.{refused-first, both-taken}
-use Rattle.plan.proofs.Accepted.{accepted, planned-judged}
-use Rattle.protocol.specs.Sheet.{headOf, headPlan, judgeHead}
+use Rattle.plan.specs.Calls.{planning, planned}
+use Rattle.refusals.proofs.Outcomes.{refused-first}
+use Rattle.plan.proofs.Accepted.{accepted}
+use Rattle.protocol.specs.Sheet.{headOf, judgeHead}
 use Rattle.hex.specs.Bytes.{byteAt, bytesFrom}
-use Rattle.text.specs.Text.{headFrom, lineSettings}
+use Rattle.heads.specs.Heads.{lineSettings}
 use Rattle.hex.proofs.Bytes.{bytes-length, bytes-drop, bytes-take, bytes-more, all, all-at}
 
 module _ (line : List ℕ) where
@@ -103,35 +103,20 @@ module _ (line : List ℕ) where
   slots-part k sets e =
       ap₂ take (let z : k - 0 ≡ k = omega arith in z) e ∙ take-at (bytesFrom line 6 k) (replicate (255 - k) 0) k (bytes-length line 6 k)
 
-  -- The head as the code makes it.
-  pub head-made : (n v s f : ℕ) (settings : Settings) (sets : List ℕ) (p : Plan) → n ≡ byteAt line 0 → settings ≡ lineSettings line
-      → v ≡ byteAt line 4 → s ≡ byteAt line 5 → f ≡ byteAt line (s + 6) → sets ≡ bytesFrom line 6 s → p ≡ planned n sets settings
-      → record { plan = p; faulty = f; word = v } ≡ headFrom line
-  unfolding headFrom
-  head-made n v s f settings sets p en em ev es ef esets ep = rw (ep, ef, esets, es, en, em, ev) refl
-
-  -- The head by its bytes is the head by the line's digits.
-  pub head-parts : length line / 2 ≡ byteAt line 5 + 6 + 1
-      → headFrom line ≡ record { plan = headPlan (headOf (all line)); faulty = headOf (all line) .faulty; word = headOf (all line) .word }
-  unfolding numberAt headFrom headPlan headOf
-  head-parts e =
-      let six : getD (all line) (6 + byteAt line 5) 0 ≡ byteAt line (byteAt line 5 + 6) =
-      all-at line (6 + byteAt line 5) ∙ ap (byteAt line) (let z : 6 + byteAt line 5 ≡ byteAt line 5 + 6 = omega arith in z) in
-      rw (all-at line 0, all-at line 1, all-at line 2, all-at line 3, all-at line 4, all-at line 5, sets-are e, six) refl
-
-  -- A head that is accepted has its length, and a plan that is accepted.
+  -- A head that is accepted has its length.
   pub head-sized : judgeHead (all line) .number ≡ 0 → length line / 2 ≡ byteAt line 5 + 6 + 1
   head-sized e =
       cases (eqb (length line / 2) (byteAt line 5 + 6 + 1))
       (λ x. eqb-true (length line / 2) (byteAt line 5 + 6 + 1) x)
       (λ x. absurd (let z : 22 ≡ 0 = ap (λ o. o .number) (sym (head-wrong (eqb-false (length line / 2) (byteAt line 5 + 6 + 1) x))) ∙ e in omega arith))
 
-  pub head-accepted : judgeHead (all line) .number ≡ 0 → judged (headFrom line .plan) .number ≡ 0
-  unfolding headFrom
-  head-accepted e =
-      let sets = bytesFrom line 6 (byteAt line 5) in
-      let first = planning (byteAt line 0) (byteAt line 5) sets (lineSettings line) in
-      let (ok, _) = both-taken first _ (ap (λ o. o .number) (sym (head-right (head-sized e))) ∙ e) in
-      let good : planning (byteAt line 0) (length sets) sets (lineSettings line) .number ≡ 0 =
-      ap (λ k. planning (byteAt line 0) k sets (lineSettings line) .number) (bytes-length line 6 (byteAt line 5)) ∙ ok in
-      ap (λ o. o .number) (planned-judged (byteAt line 0) sets (lineSettings line) good) ∙ good
+  -- The head as the code makes it, if it is accepted.
+  pub head-made : (n v s f : ℕ) (settings : Settings) (sets : List ℕ) (p : Plan) → n ≡ byteAt line 0 → settings ≡ lineSettings line
+      → v ≡ byteAt line 4 → s ≡ byteAt line 5 → f ≡ byteAt line (s + 6) → sets ≡ bytesFrom line 6 s → p ≡ planned n sets settings
+      → judgeHead (all line) .number ≡ 0 → record { plan = p; faulty = f; word = v } ≡ headOf (all line)
+  unfolding numberAt headOf
+  head-made n v s f settings sets p en em ev es ef esets ep ok =
+      let six : getD (all line) (6 + byteAt line 5) 0 ≡ byteAt line (byteAt line 5 + 6) =
+      all-at line (6 + byteAt line 5) ∙ ap (byteAt line) (let z : 6 + byteAt line 5 ≡ byteAt line 5 + 6 = omega arith in z) in
+      rw (all-at line 0, all-at line 1, all-at line 2, all-at line 3, all-at line 4, all-at line 5, sets-are (head-sized ok), six) (
+      rw (ep, ef, esets, es, en, em, ev) refl)

@@ -1,8 +1,8 @@
 -- `settings_of` meets its contract.
 -- Assumes nothing.
 use borrow.Author.Needs.{needs}
-use Rattle.text.proofs.head.settings_of.Statement.{statement}
-use Rattle.text.proofs.head.settings_of.Tie as tie
+use Rattle.heads.proofs.head.settings_of.Statement.{statement}
+use Rattle.heads.proofs.head.settings_of.Tie as tie
 
 returns : tie.Need-returns
 returns c = rw (c .byte-at2 .ensures, c .before .number-at .ensures, c .before .before .byte-at .ensures)
