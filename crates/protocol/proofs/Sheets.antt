@@ -94,21 +94,21 @@ head-good bytes e =
 
 -- Reading line by line: what each case leaves.
 module _ (h : Head) (before : Option Frame) (line : ℕ) (l : Line) (ls : List Line) where
-  frames-text : lineBytes l ≡ none → readFrames h before line (l ∷ ls) ≡ refusedReading h line (refused 21)
+  pub frames-text : lineBytes l ≡ none → readFrames h before line (l ∷ ls) ≡ refusedReading h line (refused 21)
   unfolding readFrames
   frames-text e = rw (e, readFrames)
 
-  frames-wrong : (bytes : List ℕ) → lineBytes l ≡ some bytes → goodFrame h before bytes ≡ false → readFrames h before line (l ∷ ls) ≡ refusedReading h line (refused 24)
+  pub frames-wrong : (bytes : List ℕ) → lineBytes l ≡ some bytes → goodFrame h before bytes ≡ false → readFrames h before line (l ∷ ls) ≡ refusedReading h line (refused 24)
   unfolding readFrames
   frames-wrong bytes e b = rw (e, b, readFrames)
 
-  frames-right : (bytes : List ℕ) → lineBytes l ≡ some bytes → goodFrame h before bytes ≡ true
+  pub frames-right : (bytes : List ℕ) → lineBytes l ≡ some bytes → goodFrame h before bytes ≡ true
       → readFrames h before line (l ∷ ls) ≡ addFrame (frameLine bytes) (readFrames h (some (frameLine bytes)) (suc line) ls)
   unfolding readFrames
   frames-right bytes e b = rw (e, b, readFrames)
 
 -- Reading frames keeps the head.
-frames-head : (h : Head) (before : Option Frame) (line : ℕ) (ls : List Line) → readFrames h before line ls .head ≡ h
+pub frames-head : (h : Head) (before : Option Frame) (line : ℕ) (ls : List Line) → readFrames h before line ls .head ≡ h
 unfolding readFrames refusedReading addFrame
 frames-head h before line [] = refl
 frames-head h before line (l ∷ ls) = go (λ f. frames-head h (some f) (suc line) ls) (lineBytes l) refl

@@ -1,7 +1,7 @@
 -- A sheet that is accepted: its head line, its head and its frames.
 -- Assumes nothing.
 use Prim.Native.Nat.{ℕ, _+_, _-_, _/_, _<_}
-use mathlib.Core.Path.{_≡_, refl, sym, ap, _∙_}
+use mathlib.Core.Path.{_≡_, refl, sym, ap, subst, _∙_}
 use mathlib.Core.Bool.{true, _&&_}
 use mathlib.Core.List.{List, [], _∷_}
 use mathlib.Core.Option.{none}
@@ -13,15 +13,16 @@ use Rattle.sets.specs.Sets.{member}
 use Rattle.sets.proofs.Tests.{cases, and-l, and-r}
 use Rattle.plan.specs.declared.plan.Plan.{Plan}
 use Rattle.refusals.specs.Outcome.{Outcome}
-use Rattle.protocol.specs.Sheet.{Line, lines, headOf, headPlan, wrongAt, reading}
+use Rattle.protocol.specs.declared.head.Head.{Head}
+use Rattle.protocol.specs.Sheet.{Line, lines, headOf, judgeHead, wrongAt, reading}
+use Rattle.protocol.proofs.Sheets.{frames-head}
 use Rattle.hex.specs.Bytes.{isText}
-use Rattle.text.specs.Text.{headFrom}
 use Rattle.hex.proofs.Bytes.{all}
-use Rattle.text.proofs.Heads.{head-parts, head-sized}
 use Rattle.text.proofs.LineEnds.{stop}
 use Rattle.finding.specs.Frames.{lineFrame, framesOf, framesFrom, frameKey, rising, Rising, lineKey}
-use Rattle.reader.specs.Reading.{goodLine, judgeLines, judgeTop}
-use Rattle.reader.proofs.WholeSheet.{Begun, sheet-begun, sheet-refused, sheet-answer, read-head, read-frames}
+use Rattle.frame_lines.specs.FrameLines.{goodLine, judgeLine}
+use Rattle.reader.specs.Reading.{judgeLines, judgeTop}
+use Rattle.reader.proofs.WholeSheet.{Begun, sheet-begun, sheet-refused, sheet-answer, read-frames}
 
 -- Lines that are accepted rise.
 key-by-digits : (d : List ℕ) → frameKey (lineFrame d) ≡ lineKey d
@@ -37,7 +38,7 @@ good-low p faulty least d e =
     and-l low sender (and-r four (low && sender) (and-l (four && (low && sender)) _ e))
 
 lines-rising : (p : Plan) (faulty : ℕ) (ls : List Line) (least number : ℕ) → judgeLines p faulty least number ls .number ≡ 0 → rising least (framesOf ls) ≡ true
-unfolding judgeLines rising framesOf wrongAt
+unfolding judgeLines judgeLine rising framesOf wrongAt
 lines-rising p faulty [] least number ok = refl
 lines-rising p faulty (l ∷ ls) least number ok =
     let d = l .text in
@@ -60,16 +61,16 @@ module _ (text : List ℕ) (ok : reading text .answer .number ≡ 0) where
   pub sheet-ended : stop text 0 < length text
   sheet-ended = begun .ended
 
-  pub sheet-head : headFrom (take (stop text 0 - 0) (drop 0 text))
-      ≡ record { plan = headPlan (reading text .head); faulty = reading text .head .faulty; word = reading text .head .word }
+  -- Its head is that of its first line's bytes.
+  pub sheet-head : reading text .head ≡ headOf (all (take (stop text 0 - 0) text))
   sheet-head =
-      let top = take (stop text 0 - 0) text in
-      let h : reading text .head ≡ headOf (all top) = ap (λ r. r .head) (begun .reads) ∙ read-head (headOf (all top)) (lines (drop (stop text 0 + 1) text)) none 2 in
-      head-parts top (head-sized top (begun .accepted)) ∙ sym (ap (λ x. record { plan = headPlan x; faulty = x .faulty; word = x .word }) h)
+      let h = headOf (all (take (stop text 0 - 0) text)) in ap (λ r. r .head) (begun .reads) ∙ frames-head h none 2 (lines (drop (stop text 0 + 1) text))
 
-  pub sheet-head-at : headFrom (take (stop text 0) text)
-      ≡ record { plan = headPlan (reading text .head); faulty = reading text .head .faulty; word = reading text .head .word }
-  sheet-head-at = ap (λ k. headFrom (take k text)) (let z : stop text 0 ≡ stop text 0 - 0 = omega arith in z) ∙ sheet-head
+  -- So it is the head that its first line's reading gives.
+  pub sheet-given : (e : ℕ) (h : Head) → e ≡ stop text 0
+      → (judgeHead (all (take (e - 0) text)) .number ≡ 0 → h ≡ headOf (all (take (e - 0) text))) → h ≡ reading text .head
+  sheet-given e h ends gives =
+      subst (λ k. judgeHead (all (take (k - 0) text)) .number ≡ 0 → h ≡ headOf (all (take (k - 0) text))) ends gives (begun .accepted) ∙ sym sheet-head
 
   pub sheet-frames : reading text .frames ≡ framesFrom text (stop text 0 + 1)
   unfolding framesFrom
@@ -80,7 +81,6 @@ module _ (text : List ℕ) (ok : reading text .answer .number ≡ 0) where
   pub sheet-rising : Rising text (stop text 0 + 1)
   unfolding framesFrom
   sheet-rising =
-      let top = take (stop text 0 - 0) text in
-      let h = headFrom top in
+      let h = headOf (all (take (stop text 0 - 0) text)) in
       lines-rising (h .plan) (h .faulty) (lines (drop (stop text 0 + 1) text)) 0 2
       (ap (λ (o : Outcome). o .number) (sym (sheet-answer text (stop text 0) refl begun)) ∙ ok)

@@ -1,3 +1,3 @@
-pub mod FrameLines
+pub mod Places
 pub mod WholeSheet
 pub mod Accepted

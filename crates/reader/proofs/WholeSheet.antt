@@ -21,15 +21,17 @@ use Rattle.refusals.specs.declared.refusal.Verdict.the-variants.{Refused}
 use Rattle.refusals.specs.Outcome.{refused, refusal, verdict}
 use Rattle.refusals.proofs.Outcomes.{refusal-number}
 use Rattle.protocol.specs.Nodes.{due}
-use Rattle.protocol.specs.Sheet.{Line, lines, lineBytes, Head, headOf, headPlan, judgeHead, Frame, frameLine, earlier, rises, goodFrame, wrongAt, refusedReading, addFrame, readFrames, readHead, readLines, reading}
+use Rattle.protocol.specs.declared.head.Head.{Head}
+use Rattle.protocol.specs.Sheet.{Line, lines, lineBytes, headOf, judgeHead, Frame, frameLine, earlier, rises, goodFrame, wrongAt, refusedReading, addFrame, readFrames, readHead, readLines, reading}
 use Rattle.hex.specs.Bytes.{isText, byteAt, bytesFrom}
-use Rattle.text.specs.Text.{headFrom}
 use Rattle.hex.proofs.Bytes.{all, bytes-length, bytes-drop, text-bytes, text-none, byte-below, all-at}
-use Rattle.text.proofs.Heads.{head-parts, head-sized}
+use Rattle.heads.proofs.Heads.{head-sized}
+use Rattle.protocol.proofs.Sheets.{frames-text, frames-wrong, frames-right}
 use Rattle.text.proofs.LineEnds.{stop, lines-at}
-use Rattle.reader.specs.Reading.{judgedSays, expected, goodLine, judgeLines, judgeTop}
+use Rattle.frame_lines.specs.FrameLines.{expected, goodLine, judgeLine}
+use Rattle.reader.specs.Reading.{judgedSays, JudgedAs, judgeLines, judgeTop}
 use Rattle.finding.specs.Frames.{lineFrame, framesOf, keyOf, lineKey}
-use Rattle.reader.proofs.FrameLines.{top-none}
+use Rattle.reader.proofs.Places.{top-none}
 
 -- Two numbers of two parts each, the second below w.
 earlier-key : (w a b x y : ℕ) → x < w → y < w → earlier a b (ltb x y) ≡ ltb (a * w + x) (b * w + y)
@@ -93,13 +95,13 @@ and-assoc true b c = refl
 and-assoc false b c = refl
 
 good-same : (h : Head) (before : Option Frame) (least : ℕ) (d : List ℕ) → Follows before least
-    → goodFrame h before (all d) ≡ goodLine (headPlan h) (h .faulty) least d
+    → goodFrame h before (all d) ≡ goodLine (h .plan) (h .faulty) least d
 unfolding goodFrame goodLine expected
 good-same h before least d f =
     rw (frame-same d, bytes-length d 0 (length d / 2), f d)
     (ap (λ x. (leb 4 (length d / 2) && (leb least (lineKey d) && member (lineFrame d .sender) (h .faulty))) && x)
-    (and-assoc (not (member (lineFrame d .receiver) (h .faulty))) (hasRound (headPlan h) (lineFrame d .run) (lineFrame d .round))
-    (due (headPlan h) (lineFrame d .sender) (lineFrame d .receiver) (lineFrame d .round))))
+    (and-assoc (not (member (lineFrame d .receiver) (h .faulty))) (hasRound (h .plan) (lineFrame d .run) (lineFrame d .round))
+    (due (h .plan) (lineFrame d .sender) (lineFrame d .receiver) (lineFrame d .round))))
 
 -- The bytes of a line.
 module _ (l : Line) where
@@ -114,58 +116,25 @@ module _ (l : Line) where
       (λ x. rw x (text-none (l .text) (let z : isText (l .text) ≡ false = rw x at e in z)))
       (λ x. rw x refl)
 
--- Reading the frame lines.
-module _ (h : Head) (before : Option Frame) (number : ℕ) (l : Line) (ls : List Line) where
-  read-none : lineBytes l ≡ none → readFrames h before number (l ∷ ls) ≡ refusedReading h number (refused 21)
-  unfolding readFrames
-  read-none e = rw (e, readFrames)
-
-  read-wrong : (bytes : List ℕ) → lineBytes l ≡ some bytes → goodFrame h before bytes ≡ false
-      → readFrames h before number (l ∷ ls) ≡ refusedReading h number (refused 24)
-  unfolding readFrames
-  read-wrong bytes e g = rw (e, readFrames) (rw g)
-
-  read-good : (bytes : List ℕ) → lineBytes l ≡ some bytes → goodFrame h before bytes ≡ true
-      → readFrames h before number (l ∷ ls) ≡ addFrame (frameLine bytes) (readFrames h (some (frameLine bytes)) (suc number) ls)
-  unfolding readFrames
-  read-good bytes e g = rw (e, readFrames) (rw g)
-
 -- What is judged of the frame lines.
 module _ (h : Head) where
   read-judged : (ls : List Line) (before : Option Frame) (least number : ℕ) → Follows before least
-      → readFrames h before number ls .answer ≡ judgeLines (headPlan h) (h .faulty) least number ls
-  unfolding readFrames judgeLines addFrame refusedReading
+      → readFrames h before number ls .answer ≡ judgeLines (h .plan) (h .faulty) least number ls
+  unfolding readFrames judgeLines judgeLine addFrame refusedReading
   read-judged [] before least number f = refl
   read-judged (l ∷ ls) before least number f =
       let d = l .text in
       let good = good-same h before least d f in
-      let rest = judgeLines (headPlan h) (h .faulty) (lineKey d + 1) (number + 1) ls in
+      let rest = judgeLines (h .plan) (h .faulty) (lineKey d + 1) (number + 1) ls in
       let ih : readFrames h (some (lineFrame d)) (number + 1) ls .answer ≡ rest = read-judged ls (some (lineFrame d)) (lineKey d + 1) (number + 1) (rises-key d) in
       cases (l .ended && isText d)
       (λ x. let some-bytes = bytes-some l (and-l (l .ended) (isText d) x) (and-r (l .ended) (isText d) x) in
-      cases (goodLine (headPlan h) (h .faulty) least d)
-      (λ y. ap (λ r. r .answer) (read-good h before number l ls (all d) some-bytes (good ∙ y))
+      cases (goodLine (h .plan) (h .faulty) least d)
+      (λ y. ap (λ r. r .answer) (frames-right h before number l ls (all d) some-bytes (good ∙ y))
       ∙ ap₂ (λ g k. readFrames h (some g) k ls .answer) (frame-same d) (sym (add-one number))
       ∙ ih ∙ sym (rw (x, y) refl))
-      (λ y. ap (λ r. r .answer) (read-wrong h before number l ls (all d) some-bytes (good ∙ y)) ∙ sym (rw (x, y) refl)))
-      (λ x. ap (λ r. r .answer) (read-none h before number l ls (bytes-none l x)) ∙ sym (rw x refl))
-
-  head-step : (before : Option Frame) (number : ℕ) (l : Line) (ls : List Line) → ((g : Option Frame) → readFrames h g (suc number) ls .head ≡ h)
-      → readFrames h before number (l ∷ ls) .head ≡ h
-  unfolding addFrame refusedReading
-  head-step before number l ls rest = go (lineBytes l) refl
-    where
-      go : (o : Option (List ℕ)) → lineBytes l ≡ o → readFrames h before number (l ∷ ls) .head ≡ h
-      go none e = ap (λ r. r .head) (read-none h before number l ls e)
-      go (some bytes) e =
-          cases (goodFrame h before bytes)
-          (λ y. ap (λ r. r .head) (read-good h before number l ls bytes e y) ∙ rest (some (frameLine bytes)))
-          (λ y. ap (λ r. r .head) (read-wrong h before number l ls bytes e y))
-
-  pub read-head : (ls : List Line) (before : Option Frame) (number : ℕ) → readFrames h before number ls .head ≡ h
-  unfolding readFrames
-  read-head [] before number = refl
-  read-head (l ∷ ls) before number = head-step before number l ls (λ g. read-head ls g (suc number))
+      (λ y. ap (λ r. r .answer) (frames-wrong h before number l ls (all d) some-bytes (good ∙ y)) ∙ sym (rw (x, y) refl)))
+      (λ x. ap (λ r. r .answer) (frames-text h before number l ls (bytes-none l x)) ∙ sym (rw x refl))
 
   frames-step : (before : Option Frame) (number : ℕ) (l : Line) (ls : List Line)
       → ((g : Option Frame) → readFrames h g (suc number) ls .answer .number ≡ 0 → readFrames h g (suc number) ls .frames ≡ framesOf ls)
@@ -175,11 +144,11 @@ module _ (h : Head) where
       cases (l .ended && isText (l .text))
       (λ x. let some-bytes = bytes-some l (and-l (l .ended) (isText (l .text)) x) (and-r (l .ended) (isText (l .text)) x) in
       cases (goodFrame h before (all (l .text)))
-      (λ y. let good = read-good h before number l ls (all (l .text)) some-bytes y in
+      (λ y. let good = frames-right h before number l ls (all (l .text)) some-bytes y in
       ap (λ r. r .frames) good
       ∙ ap₂ _∷_ (frame-same (l .text)) (rest (some (frameLine (all (l .text)))) (ap (λ r. r .answer .number) (sym good) ∙ ok)))
-      (λ y. absurd (let z : 24 ≡ 0 = ap (λ r. r .answer .number) (sym (read-wrong h before number l ls (all (l .text)) some-bytes y)) ∙ ok in omega arith)))
-      (λ x. absurd (let z : 21 ≡ 0 = ap (λ r. r .answer .number) (sym (read-none h before number l ls (bytes-none l x))) ∙ ok in omega arith))
+      (λ y. absurd (let z : 24 ≡ 0 = ap (λ r. r .answer .number) (sym (frames-wrong h before number l ls (all (l .text)) some-bytes y)) ∙ ok in omega arith)))
+      (λ x. absurd (let z : 21 ≡ 0 = ap (λ r. r .answer .number) (sym (frames-text h before number l ls (bytes-none l x))) ∙ ok in omega arith))
 
   -- The frames of lines that are accepted.
   pub read-frames : (ls : List Line) (before : Option Frame) (number : ℕ) → readFrames h before number ls .answer .number ≡ 0
@@ -248,22 +217,17 @@ module _ (text : List ℕ) (e : ℕ) (ends : e ≡ stop text 0) where
   sheet-refused bad = top-refused (lines text) bad
 
   -- What is said of a head that is refused.
-  pub sheet-said : (why : Refusal) → refusal why ≡ judgeTop (lines text)
-      → (judgedSays (record { verdict = Refused why; line = 1 }) ≡ reading text .answer) × (1 ≡ getD (reading text .answer .values) 0 0)
+  pub sheet-said : (why : Refusal) → refusal why ≡ judgeTop (lines text) → JudgedAs (reading text .answer) (length text) (record { verdict = Refused why; line = 1 })
   unfolding judgedSays verdict wrongAt
   sheet-said why same =
       let bad = refusal-number why in
       let x = sheet-refused (λ z. bad (ap (λ o. o .number) same ∙ z)) in
       let said : judgedSays (record { verdict = Refused why; line = 1 }) ≡ wrongAt 1 (refusal why) = rw (ne-eqb (refusal why .number) 0 bad) refl in
-      (said ∙ ap (wrongAt 1) same ∙ sym x, sym (ap (λ o. getD (o .values) 0 0) x))
+      record { says = said ∙ ap (wrongAt 1) same ∙ sym x; line = sym (ap (λ o. getD (o .values) 0 0) x); few = omega arith }
 
   module _ (b : Begun) where
     pub sheet-far : 14 ≤ e
     sheet-far = omega (arith, head-sized top (b .accepted), length-take-le (e - 0) text (let z : e - 0 ≤ length text = omega (arith, b .ended) in z))
 
-    pub sheet-answer : reading text .answer ≡ judgeLines (headFrom top .plan) (headFrom top .faulty) 0 2 (lines (drop (e + 1) text))
-    sheet-answer =
-        let parts = head-parts top (head-sized top (b .accepted)) in
-        ap (λ r. r .answer) (b .reads)
-        ∙ read-judged (headOf (all top)) (lines (drop (e + 1) text)) none 0 2 follows-none
-        ∙ sym (ap (λ h. judgeLines (h .plan) (h .faulty) 0 2 (lines (drop (e + 1) text))) parts)
+    pub sheet-answer : reading text .answer ≡ judgeLines (headOf (all top) .plan) (headOf (all top) .faulty) 0 2 (lines (drop (e + 1) text))
+    sheet-answer = ap (λ r. r .answer) (b .reads) ∙ read-judged (headOf (all top)) (lines (drop (e + 1) text)) none 0 2 follows-none

@@ -2,10 +2,10 @@
 -- Assumes nothing.
 use mathlib.Core.Path.{sym, _∙_}
 use Rattle.sets.proofs.Tests.{not-t, not-f}
-use Rattle.reader.proofs.FrameLines.{no-round, no-board, no-cells, is-expected-due, receiver-stands}
+use Rattle.frame_lines.proofs.FrameLines.{no-round, no-board, no-cells, is-expected-due, receiver-stands}
 use borrow.Author.Needs.{needs}
-use Rattle.reader.proofs.judgement.is_expected.Statement.{statement}
-use Rattle.reader.proofs.judgement.is_expected.Tie as tie
+use Rattle.frame_lines.proofs.line.is_expected.Statement.{statement}
+use Rattle.frame_lines.proofs.line.is_expected.Tie as tie
 
 returns : tie.Need-returns
 returns c =
