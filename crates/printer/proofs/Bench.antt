@@ -44,7 +44,7 @@ pub playing-fits : (text cells out : List ℕ) → Fits out (playing text cells 
 unfolding playing playHead wrongAt
 playing-fits text cells out =
     let r = reading text in
-    let t = printBoards (r .head) (finalBoards (r .head) (r .frames) cells) 0 (r .head .n) in
+    let t = printBoards (r .head) (finalBoards (r .head) (r .frames) cells) 0 (r .head .plan .n) in
     let size = length-append t (drop (length t) out) in
     let rest = length-drop (length t) out in
     let accepted = playHead (r .head) (r .frames) cells out in

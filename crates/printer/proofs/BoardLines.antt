@@ -17,12 +17,13 @@ use Rattle.sets.proofs.Tests.{cases}
 use Rattle.protocol.specs.Limits.{lineLength, outputNeeded}
 use Rattle.protocol.specs.declared.records.Record.{Record}
 use Rattle.protocol.specs.Calls.{voidRecord}
+use Rattle.protocol.specs.Listing.{asSet}
 use Rattle.protocol.specs.Rounds.{boardWith, Board}
 use Rattle.protocol.specs.Session.{Boards, boardAt, nobody}
-use Rattle.protocol.specs.Sheet.{Head}
+use Rattle.protocol.specs.declared.head.Head.{Head}
 use Rattle.hex.specs.Hex.{hexByte, hexBytes}
 use Rattle.protocol.specs.Playing.{hexValue, printed, boardLine, printBoards}
-use Rattle.printer.specs.Printed.{printHead, boardsOf, boardLines}
+use Rattle.printer.specs.Printed.{boardsOf, healthyLine, boardLines}
 use Rattle.printer.proofs.Stores.{stores-more}
 
 -- The record of board i.
@@ -51,12 +52,12 @@ module _ (h : Head) (w : Boards) where
   unfolding boardLine
   line-faulty i rest f = rw f refl
 
-  pub line-dealer : (i : ℕ) (rest : List ℕ) → member i (h .faulty) ≡ false → eqb i (h .dealer) ≡ true
+  pub line-dealer : (i : ℕ) (rest : List ℕ) → member i (h .faulty) ≡ false → eqb i (h .plan .dealer) ≡ true
       → boardLine h w i rest ≡ printed i (h .word) 0 rest
   unfolding boardLine
   line-dealer i rest f d = rw (f, d) refl
 
-  pub line-other : (i : ℕ) (rest : List ℕ) → member i (h .faulty) ≡ false → eqb i (h .dealer) ≡ false
+  pub line-other : (i : ℕ) (rest : List ℕ) → member i (h .faulty) ≡ false → eqb i (h .plan .dealer) ≡ false
       → boardLine h w i rest ≡ printed i (boardAt w i .rec .decision) (boardAt w i .rec .detected) rest
   unfolding boardLine
   line-other i rest f d = rw (f, d) refl
@@ -67,7 +68,7 @@ module _ (h : Head) (w : Boards) where
   line-first i rest =
       cases (member i (h .faulty))
       (λ f. rw (line-faulty i rest f, line-faulty i [] f) refl)
-      (λ f. cases (eqb i (h .dealer))
+      (λ f. cases (eqb i (h .plan .dealer))
       (λ d. rw (line-dealer i rest f d, line-dealer i [] f d) refl)
       (λ d. rw (line-other i rest f d, line-other i [] f d) refl))
 
@@ -94,7 +95,7 @@ module _ (h : Head) (w : Boards) where
   -- A line has its length, or nothing is printed.
   pub line-size : (i : ℕ) → member i (h .faulty) ≡ false → length (boardLine h w i []) ≡ lineLength
   unfolding encode printed hexByte hexBytes hexValue
-  line-size i f = cases (eqb i (h .dealer)) (λ d. rw (line-dealer i [] f d) refl) (λ d. rw (line-other i [] f d) refl)
+  line-size i f = cases (eqb i (h .plan .dealer)) (λ d. rw (line-dealer i [] f d) refl) (λ d. rw (line-other i [] f d) refl)
 
   pub print-short : (k : ℕ) → length (printBoards h w 0 k) ≤ 7 * k
   print-short zero = rw lines-none (omega arith)
@@ -104,18 +105,14 @@ module _ (h : Head) (w : Boards) where
       cases (member (0 + k) (h .faulty)) (λ f. rw (line-faulty (0 + k) [] f) (omega arith)) (λ f. omega (arith, line-size (0 + k) f)) in
       omega (arith, e, l, print-short k)
 
-  -- The line with what the code shows of a board.
-  pub line-shown : (i decision detected v s : ℕ) → decision ≡ cond (eqb i (h .dealer)) (h .word) v → detected ≡ cond (eqb i (h .dealer)) 0 s
-      → v ≡ boardAt w i .rec .decision → s ≡ boardAt w i .rec .detected → member i (h .faulty) ≡ false
-      → printed i decision detected [] ≡ boardLine h w i []
-  line-shown i decision detected v s ev es rv rs f =
-      cases (eqb i (h .dealer))
-      (λ d. let e : decision ≡ h .word = rw d at ev in
-      let e′ : detected ≡ 0 = rw d at es in
-      ap₂ (λ x y. printed i x y []) e e′ ∙ sym (line-dealer i [] f d))
-      (λ d. let e : decision ≡ v = rw d at ev in
-      let e′ : detected ≡ s = rw d at es in
-      ap₂ (λ x y. printed i x y []) (e ∙ rv) (e′ ∙ rs) ∙ sym (line-other i [] f d))
+  -- The line of a board outside F, from a record with its decision and its list.
+  pub line-healthy : (i : ℕ) (r : Record) → r .decision ≡ boardAt w i .rec .decision → r .detected ≡ boardAt w i .rec .detected
+      → member i (h .faulty) ≡ false → healthyLine h i r [] ≡ boardLine h w i []
+  unfolding healthyLine
+  line-healthy i r ev es f =
+      cases (eqb i (h .plan .dealer))
+      (λ d. rw d (sym (line-dealer i [] f d)))
+      (λ d. rw d (ap₂ (λ v s. printed i v (asSet s) []) ev es ∙ sym (line-other i [] f d)))
 
   -- A turn of the loop: the line is stored after those before it, or there is none.
   pub one-more : (i used : ℕ) (out₀ out next line : List ℕ) → used ≡ length (printBoards h w 0 i) → out ≡ sets out₀ 0 (printBoards h w 0 i)
@@ -132,58 +129,50 @@ module _ (h : Head) (w : Boards) where
   none-more i f = sym (lines-more i ∙ ap (λ t. printBoards h w 0 i ++ t) (line-faulty i [] f) ∙ append-nil (printBoards h w 0 i))
 
 -- What `print_boards` prints: nothing, or the lines.
-module _ (n dealer faulty word : ℕ) (records : List Record) (out : List ℕ) where
+module _ (h : Head) (records : List Record) (out : List ℕ) where
   abbrev text : List ℕ
-  text = boardLines n dealer faulty word records out
+  text = boardLines h records out
 
   nothing : text ≡ [] → (0 ≡ length text) × (out ≡ text ++ drop (length text) out)
   nothing e = rw e (refl, refl)
 
-  pub many-boards : 7 < n → (0 ≡ length text) × (out ≡ text ++ drop (length text) out)
+  pub many-boards : 7 < h .plan .n → (0 ≡ length text) × (out ≡ text ++ drop (length text) out)
   unfolding boardLines
-  many-boards l = nothing (rw (lt-leb n 7 l) refl)
+  many-boards l = nothing (rw (lt-leb (h .plan .n) 7 l) refl)
 
   pub short-output : length out < outputNeeded → (0 ≡ length text) × (out ≡ text ++ drop (length text) out)
   unfolding boardLines
-  short-output l = nothing (cases (leb n 7) (λ e. rw (e, lt-leb outputNeeded (length out) l) refl) (λ e. rw e refl))
+  short-output l = nothing (cases (leb (h .plan .n) 7) (λ e. rw (e, lt-leb outputNeeded (length out) l) refl) (λ e. rw e refl))
 
-  pub all-lines : n ≤ 7 → outputNeeded ≤ length out → text ≡ printBoards (printHead n dealer faulty word) (boardsOf records) 0 n
+  pub all-lines : h .plan .n ≤ 7 → outputNeeded ≤ length out → text ≡ printBoards h (boardsOf records) 0 (h .plan .n)
   unfolding boardLines
-  all-lines l m = rw (le-leb n 7 l, le-leb outputNeeded (length out) m) refl
+  all-lines l m = rw (le-leb (h .plan .n) 7 l, le-leb outputNeeded (length out) m) refl
 
--- What is printed depends on n, the dealer, its value and F, and on the records of the boards that are neither the dealer nor in F.
-module _ (h h′ : Head) (w w′ : Boards) (ed : h .dealer ≡ h′ .dealer) (ef : h .faulty ≡ h′ .faulty) (ew : h .word ≡ h′ .word) where
-  line-same : (i : ℕ) (rest : List ℕ) → (member i (h .faulty) ≡ false → i ≢ h .dealer → boardAt w i .rec ≡ boardAt w′ i .rec)
-      → boardLine h w i rest ≡ boardLine h′ w′ i rest
+-- What is printed depends on the records of the boards that are neither the dealer nor in F.
+module _ (h : Head) (w w′ : Boards) where
+  line-same : (i : ℕ) (rest : List ℕ) → (member i (h .faulty) ≡ false → i ≢ h .plan .dealer → boardAt w i .rec ≡ boardAt w′ i .rec)
+      → boardLine h w i rest ≡ boardLine h w′ i rest
   line-same i rest same =
       cases (member i (h .faulty))
-      (λ f. line-faulty h w i rest f ∙ sym (line-faulty h′ w′ i rest (ap (member i) (sym ef) ∙ f)))
-      (λ f. let f′ = ap (member i) (sym ef) ∙ f in
-      cases (eqb i (h .dealer))
-      (λ d. line-dealer h w i rest f d ∙ ap (λ v. printed i v 0 rest) ew ∙ sym (line-dealer h′ w′ i rest f′ (ap (eqb i) (sym ed) ∙ d)))
+      (λ f. line-faulty h w i rest f ∙ sym (line-faulty h w′ i rest f))
+      (λ f. cases (eqb i (h .plan .dealer))
+      (λ d. line-dealer h w i rest f d ∙ sym (line-dealer h w′ i rest f d))
       (λ d. line-other h w i rest f d
-      ∙ ap (λ (r : Record). printed i (r .decision) (r .detected) rest) (same f (eqb-false i (h .dealer) d))
-      ∙ sym (line-other h′ w′ i rest f′ (ap (eqb i) (sym ed) ∙ d))))
+      ∙ ap (λ (r : Record). printed i (r .decision) (r .detected) rest) (same f (eqb-false i (h .plan .dealer) d))
+      ∙ sym (line-other h w′ i rest f d)))
 
-  pub print-same : (k : ℕ) → ((i : ℕ) → i < k → member i (h .faulty) ≡ false → i ≢ h .dealer → boardAt w i .rec ≡ boardAt w′ i .rec)
-      → printBoards h w 0 k ≡ printBoards h′ w′ 0 k
-  print-same zero same = lines-none h w ∙ sym (lines-none h′ w′)
+  pub print-same : (k : ℕ) → ((i : ℕ) → i < k → member i (h .faulty) ≡ false → i ≢ h .plan .dealer → boardAt w i .rec ≡ boardAt w′ i .rec)
+      → printBoards h w 0 k ≡ printBoards h w′ 0 k
+  print-same zero same = lines-none h w ∙ sym (lines-none h w′)
   print-same (suc k) same =
       let z : 0 + k ≡ k = omega arith in
       lines-last h w 0 k
       ∙ ap₂ _++_ (print-same k (λ i l. same i (omega arith))) (line-same (0 + k) [] (rw z (same k (omega arith))))
-      ∙ sym (lines-last h′ w′ 0 k)
+      ∙ sym (lines-last h w′ 0 k)
 
 -- For records in hand: the lines are those of boards with these records.
-module _ (h : Head) (w : Boards) (records : List Record) where
-  pub records-print : (k : ℕ) → ((i : ℕ) → i < k → member i (h .faulty) ≡ false → i ≢ h .dealer → getD records i voidRecord ≡ boardAt w i .rec)
-      → printBoards (printHead (h .n) (h .dealer) (h .faulty) (h .word)) (boardsOf records) 0 k ≡ printBoards h w 0 k
-  unfolding printHead
-  records-print k same =
-      print-same (printHead (h .n) (h .dealer) (h .faulty) (h .word)) h (boardsOf records) w refl refl refl k
-      (λ i l f d. record-at records i ∙ same i l f d)
-
-  pub lines-played : (out : List ℕ) → h .n ≤ 7 → outputNeeded ≤ length out
-      → ((i : ℕ) → i < h .n → member i (h .faulty) ≡ false → i ≢ h .dealer → getD records i voidRecord ≡ boardAt w i .rec)
-      → boardLines (h .n) (h .dealer) (h .faulty) (h .word) records out ≡ printBoards h w 0 (h .n)
-  lines-played out l m same = all-lines (h .n) (h .dealer) (h .faulty) (h .word) records out l m ∙ records-print (h .n) same
+pub lines-played : (h : Head) (w : Boards) (records : List Record) (out : List ℕ) → h .plan .n ≤ 7 → outputNeeded ≤ length out
+    → ((i : ℕ) → i < h .plan .n → member i (h .faulty) ≡ false → i ≢ h .plan .dealer → getD records i voidRecord ≡ boardAt w i .rec)
+    → boardLines h records out ≡ printBoards h w 0 (h .plan .n)
+lines-played h w records out l m same =
+    all-lines h records out l m ∙ print-same h (boardsOf records) w (h .plan .n) (λ i b f d. record-at records i ∙ same i b f d)

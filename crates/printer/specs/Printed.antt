@@ -1,32 +1,33 @@
--- What is printed, from what the code has in hand.
+-- What is printed, from what the code has in hand. A middle layer: what `bench` prints is `benchPrints` of the protocol.
 use Prim.Native.Nat.{ℕ}
 use mathlib.Core.Bool.{_&&_, cond}
 use mathlib.Core.List.{List, [], map, _++_}
-use lib.Dec.{leb, ltb}
+use lib.Dec.{eqb, leb, ltb}
 use lib.ListN.{length, drop}
 use Rattle.refusals.specs.Outcome.{refusal}
 use Rattle.protocol.specs.Limits.{outputNeeded}
 use Rattle.protocol.specs.declared.records.Record.{Record}
 use Rattle.protocol.specs.declared.answers.Played.{Played}
 use Rattle.protocol.specs.declared.answers.Played.the-variants.{Written, Refused}
+use Rattle.protocol.specs.Listing.{asSet}
 use Rattle.protocol.specs.Session.{Boards}
-use Rattle.protocol.specs.Sheet.{Head}
-use Rattle.protocol.specs.Playing.{printBoards, refusalText}
+use Rattle.protocol.specs.declared.head.Head.{Head}
+use Rattle.protocol.specs.Playing.{printed, printBoards, refusalText}
 use Rattle.protocol.specs.Rounds.{boardWith}
-
--- A head with what printing reads of it.
-unfoldable pub printHead : ℕ → ℕ → ℕ → ℕ → Head
-printHead n dealer faulty word = record { n = n; span = 0; dealer = dealer; depth = 0; word = word; count = 0; sets = []; faulty = faulty }
 
 -- Boards with these records; printing reads no cells.
 unfoldable pub boardsOf : List Record → Boards
 boardsOf records = map (λ r. boardWith r ([])) records
 
+-- The line of board i, outside F, with record r: the dealer's has its value and an empty list.
+unfoldable pub healthyLine : Head → ℕ → Record → List ℕ → List ℕ
+healthyLine h i r rest = cond (eqb i (h .plan .dealer)) (printed i (h .word) 0 rest) (printed i (r .decision) (asSet (r .detected)) rest)
+
 -- The lines of all boards outside F; nothing for more than seven boards, or if the output is too short.
-unfoldable pub boardLines : ℕ → ℕ → ℕ → ℕ → List Record → List ℕ → List ℕ
-boardLines n dealer faulty word records out =
-    let text = printBoards (printHead n dealer faulty word) (boardsOf records) 0 n in
-    cond (leb n 7 && leb outputNeeded (length out)) text []
+unfoldable pub boardLines : Head → List Record → List ℕ → List ℕ
+boardLines h records out =
+    let text = printBoards h (boardsOf records) 0 (h .plan .n) in
+    cond (leb (h .plan .n) 7 && leb outputNeeded (length out)) text []
 
 -- What is printed for an answer: how many bytes of the output, and the output. Nothing if it does not fit.
 unfoldable pub reportLength : Played → List ℕ → ℕ

@@ -4,23 +4,22 @@ use codec::value::WIDTH;
 use hex::writing::print_byte;
 use listing::listing::as_set;
 use protocol::answers::Played;
+use protocol::head::Head;
 use protocol::limits::LINE;
 use protocol::limits::OUTPUT;
 use protocol::records::Record;
 use refusals::refusal::Refusal;
 use sets::boards::member;
 ghost use mathlib.Core.Path.{_≡_};
-ghost use mathlib.Core.Bool.{cond};
 ghost use mathlib.Core.List.{[], _++_};
 ghost use Prim.Native.Nat.{_+_, _*_, _≤_};
-ghost use lib.Dec.{eqb};
 ghost use lib.ListN.{length, drop};
 ghost use lib.Seq.{sets};
 ghost use Rattle.refusals.specs.Outcome.{refusal};
 ghost use Rattle.codec.specs.Codec.{width};
 ghost use Rattle.protocol.specs.Limits.{lineLength};
 ghost use Rattle.protocol.specs.Playing.{hexValue, printed, refusalText};
-ghost use Rattle.printer.specs.Printed.{boardLines, reportLength, reportOut};
+ghost use Rattle.printer.specs.Printed.{healthyLine, boardLines, reportLength, reportOut};
 
 // A value as the digits of its bytes.
 fn print_value(out: &mut [u8], at: usize, v: Value)
@@ -48,27 +47,24 @@ fn print_line(out: &mut [u8], at: usize, board: u8, decision: Value, detected: u
     out[at + NEWLINE] = 10;
 }
 
-// What a line shows of board i: the dealer has a value of its own.
-fn shown(i: u8, dealer: u8, own: u8, other: u8) -> u8
-    ensures { λ r. ⌜ r ≡ cond (eqb i dealer) own other ⌝ }
+// The line of board i, which is outside F: the dealer has its own value and an empty list.
+fn print_board(head: Head, i: u8, r: Record, out: &mut [u8], at: usize)
+    requires { ⌜ at + lineLength ≤ length (now out) ⌝ }
+    ensures { λ _. ⌜ now (out .exit) ≡ sets (now (out .entry)) at (healthyLine head i r []) ⌝ }
 {
+    let dealer = head.plan.dealer;
     if i == dealer {
-        return own;
+        print_line(out, at, i, head.word, 0);
+    } else {
+        print_line(out, at, i, r.decision, as_set(r.detected));
     }
-    other
 }
 
 // The lines of all boards outside F, rising; how many bytes.
-pub fn print_boards(
-    n: u8,
-    dealer: u8,
-    faulty: u8,
-    word: Value,
-    records: [Record; 7],
-    out: &mut [u8],
-) -> usize
-    ensures { λ r. ⌜ (r ≡ length (boardLines n dealer faulty word records (now (out .entry)))) × (now (out .exit) ≡ boardLines n dealer faulty word records (now (out .entry)) ++ drop (length (boardLines n dealer faulty word records (now (out .entry)))) (now (out .entry))) ⌝ }
+pub fn print_boards(head: Head, records: [Record; 7], out: &mut [u8]) -> usize
+    ensures { λ r. ⌜ (r ≡ length (boardLines head records (now (out .entry)))) × (now (out .exit) ≡ boardLines head records (now (out .entry)) ++ drop (length (boardLines head records (now (out .entry)))) (now (out .entry))) ⌝ }
 {
+    let n = head.plan.n;
     if 7 < n {
         return 0;
     }
@@ -79,10 +75,8 @@ pub fn print_boards(
     let mut i: u8 = 0;
     while i < n {
         let r = records[i as usize];
-        if !member(faulty, i) {
-            let decision = shown(i, dealer, word, r.decision);
-            let detected = shown(i, dealer, 0, as_set(r.detected));
-            print_line(out, used, i, decision, detected);
+        if !member(head.faulty, i) {
+            print_board(head, i, r, out, used);
             used += LINE;
         }
         i += 1;

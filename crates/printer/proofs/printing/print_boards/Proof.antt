@@ -12,66 +12,65 @@ use borrow.Author.Needs.{needs}
 use Rattle.sets.specs.Sets.{member}
 use Rattle.sets.proofs.Tests.{not-t, not-f}
 use Rattle.protocol.specs.Playing.{printBoards}
-use Rattle.printer.specs.Printed.{printHead, boardsOf, boardLines}
+use Rattle.printer.specs.Printed.{boardsOf, boardLines}
 use Rattle.printer.proofs.Stores.{stores-first}
-use Rattle.printer.proofs.BoardLines.{decision-at, detected-at, line-shown, one-more, none-more, lines-none, print-short, many-boards, short-output, all-lines}
+use Rattle.printer.proofs.BoardLines.{decision-at, detected-at, line-healthy, one-more, none-more, lines-none, print-short, many-boards, short-output, all-lines}
 use Rattle.printer.proofs.printing.print_boards.Statement.{statement}
 use Rattle.printer.proofs.printing.print_boards.Tie as tie
 
 abbrev Inv-loop : tie.InvT-loop
-Inv-loop n dealer faulty word out₀ records used₀ i₀ out used i =
-    let text = printBoards (printHead n dealer faulty word) (boardsOf records) 0 i in
+Inv-loop head out₀ records n used₀ i₀ out used i =
+    let text = printBoards head (boardsOf records) 0 i in
     (i ≤ n) × (used ≡ length text) × (out ≡ sets out₀ 0 text)
 
 abbrev μ-loop : tie.MeasureT-loop
-μ-loop n dealer faulty word out₀ records used₀ i₀ out used i = n - i
+μ-loop head out₀ records n used₀ i₀ out used i = n - i
 
 returns : tie.Need-returns Inv-loop μ-loop
-returns c = let a = c .before .before .args in many-boards a.n a.dealer a.faulty a.word a.t5 (a.out .now) (c .if1 .taken)
+returns c = let a = c .before .before .args in many-boards a.head a.t2 (a.out .now) (c .if1 .taken)
 
 returns-2 : tie.Need-returns-2 Inv-loop μ-loop
-returns-2 c = let a = c .before .before .before .args in short-output a.n a.dealer a.faulty a.word a.t5 (a.out .now) (c .if2 .taken)
+returns-2 c = let a = c .before .before .before .args in short-output a.head a.t2 (a.out .now) (c .if2 .taken)
 
 loop-holds : tie.Need-loop-holds Inv-loop μ-loop
 loop-holds c =
     let a = c .before .before .before .args in
-    let none = lines-none (printHead a.n a.dealer a.faulty a.word) (boardsOf a.t5) in
+    let none = lines-none a.head (boardsOf a.t2) in
     (omega arith, sym (ap length none), sym (ap (sets (a.out .now) 0) none))
 
 mul-r : tie.Need-mul-r Inv-loop μ-loop
 mul-r c = record { fits = omega arith }
 
-print-line-requires : tie.Need-print-line-requires Inv-loop μ-loop
-print-line-requires c κs =
-    let listed = c .before .before in
-    let turn = listed .before .before .before .before .before .before in
+print-board-requires : tie.Need-print-board-requires Inv-loop μ-loop
+print-board-requires c κs =
+    let outside = c .before in
+    let turn = outside .before .before .before .before in
     let l = turn .loop in
     let a = turn .before .before .before .before .args in
-    omega (arith, l .inv .1, print-short (printHead a.n a.dealer a.faulty a.word) (boardsOf a.t5) l.i, ap length (l .inv .2), length-sets (a.out .now) 0 (printBoards (printHead a.n a.dealer a.faulty a.word) (boardsOf a.t5) 0 l.i))
+    let text = printBoards a.head (boardsOf a.t2) 0 l.i in
+    omega (arith, l .inv .1, print-short a.head (boardsOf a.t2) l.i, ap length (l .inv .2), length-sets (a.out .now) 0 text)
 
 add-used : tie.Need-add-used Inv-loop μ-loop
 add-used c =
-    let printed = c .before .before .before in
-    let listed = printed .before .before in
-    let turn = listed .before .before .before .before .before .before in
+    let outside = c .before .before .before .before in
+    let turn = outside .before .before .before .before in
     let l = turn .loop in
     let a = turn .before .before .before .before .args in
-    record { fits = omega (arith, l .inv .1, print-short (printHead a.n a.dealer a.faulty a.word) (boardsOf a.t5) l.i) }
+    record { fits = omega (arith, l .inv .1, print-short a.head (boardsOf a.t2) l.i) }
 
 loop-again : tie.Need-loop-again Inv-loop μ-loop
-unfolding printHead
 loop-again c =
-    let a = c .before .before .before .before .before .before .before .before .args in
-    let l = c .before .before .before .before .loop in
-    let h = printHead a.n a.dealer a.faulty a.word in
-    let b = boardsOf a.t5 in
+    let turn = c .before .before .before .before in
+    let a = turn .before .before .before .before .args in
+    let l = turn .loop in
+    let b = boardsOf a.t2 in
     ⊎-elim
-    (λ w. let f : member l.i a.faulty ≡ false = sym (c .before .member .ensures) ∙ not-t (c .before .member .result) (w .0 .taken) in
-    let line = line-shown h b l.i (w .1 .result) (w .3 .result) _ _ (w .1 .ensures) (w .3 .ensures) (decision-at a.t5 l.i _ refl) (w .2 .ensures ∙ detected-at a.t5 l.i _ refl) f in
-    let (u, o) = one-more h b l.i l.used (a.out .now) l.out _ _ (l .inv .1) (l .inv .2) f line (w .5 .ensures) in
-    (omega arith, w .9 ∙ u, w .8 ∙ o))
-    (λ w. let f : member l.i a.faulty ≡ true = sym (c .before .member .ensures) ∙ not-f (c .before .member .result) (w .0 .left) in
-    let e = none-more h b l.i f in
+    (λ w. let f : member l.i (a.head .faulty) ≡ false = sym (c .before .member .ensures) ∙ not-t (c .before .member .result) (w .0 .taken) in
+    let line = line-healthy a.head b l.i _ (decision-at a.t2 l.i _ refl) (detected-at a.t2 l.i _ refl) f in
+    let (u, o) = one-more a.head b l.i l.used (a.out .now) l.out _ _ (l .inv .1) (l .inv .2) f line (w .2 .ensures) in
+    (omega arith, w .6 ∙ u, w .5 ∙ o))
+    (λ w. let f : member l.i (a.head .faulty) ≡ true = sym (c .before .member .ensures) ∙ not-f (c .before .member .result) (w .0 .left) in
+    let e = none-more a.head b l.i f in
     (omega arith, w .2 ∙ l .inv .1 ∙ ap length e, w .1 ∙ l .inv .2 ∙ ap (sets (a.out .now) 0) e))
     (c .if3 .came)
 
@@ -79,17 +78,17 @@ same-length : tie.Need-same-length Inv-loop μ-loop
 same-length c =
     let a = c .before .before .before .before .before .args in
     let l = c .before .loop in
-    ap length (l .inv .2) ∙ length-sets (a.out .now) 0 (printBoards (printHead a.n a.dealer a.faulty a.word) (boardsOf a.t5) 0 l.i)
+    ap length (l .inv .2) ∙ length-sets (a.out .now) 0 (printBoards a.head (boardsOf a.t2) 0 l.i)
 
 returns-3 : tie.Need-returns-3 Inv-loop μ-loop
 returns-3 c =
     let a = c .before .before .before .before .before .args in
     let l = c .before .loop in
-    let text = printBoards (printHead a.n a.dealer a.faulty a.word) (boardsOf a.t5) 0 l.i in
-    let e : text ≡ boardLines a.n a.dealer a.faulty a.word a.t5 (a.out .now) =
-    ap (printBoards (printHead a.n a.dealer a.faulty a.word) (boardsOf a.t5) 0) (let z : l.i ≡ a.n = omega arith in z) ∙ sym (all-lines a.n a.dealer a.faulty a.word a.t5 (a.out .now) (omega arith) (omega arith)) in (
+    let text = printBoards a.head (boardsOf a.t2) 0 l.i in
+    let e : text ≡ boardLines a.head a.t2 (a.out .now) =
+    ap (printBoards a.head (boardsOf a.t2) 0) (let z : l.i ≡ a.head .plan .n = omega arith in z) ∙ sym (all-lines a.head a.t2 (a.out .now) (omega arith) (omega arith)) in (
       l .inv .1 ∙ ap length e,
-      l .inv .2 ∙ stores-first (a.out .now) text (omega (arith, print-short (printHead a.n a.dealer a.faulty a.word) (boardsOf a.t5) l.i)) ∙ ap (λ t. t ++ drop (length t) (a.out .now)) e,
+      l .inv .2 ∙ stores-first (a.out .now) text (omega (arith, print-short a.head (boardsOf a.t2) l.i)) ∙ ap (λ t. t ++ drop (length t) (a.out .now)) e,
     )
 
 pub print-boards-spec : {M : Type 1} → statement M
@@ -105,10 +104,7 @@ print-boards-spec =
     mul-r
     (λ c. omega arith)
     (λ c κs. search needs)
-    (λ c κs. search needs)
-    (λ c κs. search needs)
-    (λ c κs. search needs)
-    print-line-requires
+    print-board-requires
     add-used
     (λ c. omega arith)
     (λ c. omega arith)
