@@ -1,1 +1,2 @@
 pub mod Sender
+pub mod FromSheet

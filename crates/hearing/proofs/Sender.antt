@@ -1,91 +1,48 @@
--- The frame of a sender outside F, by the answers of the calls that give it.
+-- What boards hear from a sender; the frame of a faulty one plays no part.
 -- Assumes nothing.
-use Prim.Native.Nat.{ℕ, _+_, _-_, _*_, _≤_}
+use Prim.Native.Nat.{ℕ, _+_, _-_}
 use mathlib.Core.Path.{_≡_, refl, sym, ap, _∙_}
-use mathlib.Core.Logic.{_≢_}
-use mathlib.Core.Bool.{true, false, cond}
-use mathlib.Core.List.{List, [], _∷_}
+use mathlib.Core.Bool.{true, false}
+use mathlib.Core.List.{List}
 use native.Mathlib.Numerals.{add-one}
-use native.Mathlib.Omega.{arith}
-use lib.Dec.{ltb}
-use lib.ListN.{length, getD, take, drop, replicate}
-use borrow.Author.Tests.{eq-eqb, ne-eqb, ltb-false}
 use Rattle.sets.specs.Sets.{member}
-use Rattle.sets.specs.Search.{any}
 use Rattle.sets.proofs.Tests.{cases}
-use Rattle.refusals.specs.Outcome.{Outcome, taken, refused}
-use Rattle.refusals.proofs.Outcomes.{both-taken, passed, taken-first}
-use Rattle.protocol.specs.Limits.{frameRoom}
-use Rattle.protocol.specs.Nodes.{due}
-use Rattle.tree.specs.Places.{cellCount}
-use Rattle.protocol.specs.Rounds.{boardWith, Board}
-use Rattle.protocol.specs.Calls.{isTaken, judgeOpen, dealing, wireOf, judgeSending, sending}
+use Rattle.protocol.specs.Rounds.{Board}
 use Rattle.protocol.specs.Sheet.{Frame}
-use Rattle.protocol.specs.Playing.{part}
-use Rattle.text.specs.declared.head.Head.{Head}
-use Rattle.stage.specs.declared.acting.Act.the-variants.{Hear, HearFaulty}
-use Rattle.stage.specs.Stage.{Stage, noRecord, boardOn, actAll}
-use Rattle.hearing.specs.Hearing.{dealtFrame, frameFrom, hearSender, hearSenders}
+use Rattle.codec.specs.Codec.{decode}
+use mathlib.Core.Option.{some}
+use Rattle.protocol.specs.Session.{handIn}
+use Rattle.protocol.specs.Playing.{findFrame, decoded}
+use Rattle.protocol.specs.declared.head.Head.{Head}
+use Rattle.stage.specs.Stage.{Stage, boardOn, onStage}
+use Rattle.stage.proofs.Turn.{on-same}
+use Rattle.hearing.specs.Hearing.{told, hearFrom, hearSender, hearSenders}
+use Rattle.outgoing.specs.Outgoing.{frameFrom}
 
-pub dealt-taken : (h : Head) (v : ℕ) → taken (v ∷ []) ≡ dealing (h .plan) (h .word) → v ∷ [] ≡ dealtFrame h
-unfolding dealtFrame isTaken
-dealt-taken h v e = ap (λ o. cond (isTaken o) (o .values) []) e
+-- What a board hears from board q.
+module _ (h : Head) (fs : List Frame) (q : ℕ) where
+  pub told-faulty : (f : List ℕ) (b : Board) → member q (h .faulty) ≡ true
+      → told h fs q f b ≡ decoded (findFrame (b .rec .run) (b .rec .round) q (b .rec .board) fs)
+  unfolding told
+  told-faulty f b e = rw e refl
 
-pub dealt-refused : (h : Head) → dealing (h .plan) (h .word) .number ≢ 0 → [] ≡ dealtFrame h
-unfolding dealtFrame isTaken
-dealt-refused h ne = rw (ne-eqb (dealing (h .plan) (h .word) .number) 0 ne) refl
+  pub told-healthy : (f : List ℕ) (b : Board) → member q (h .faulty) ≡ false → told h fs q f b ≡ some (decode f)
+  unfolding told
+  told-healthy f b e = rw e refl
 
--- A writing that is taken fits its output.
-pub sending-fits : (b : Board) (out : List ℕ) (k : ℕ) → sending b out .answer ≡ taken (k ∷ []) → k ≤ length out
-unfolding sending judgeSending isTaken
-sending-fits b out k e =
-    let r = b .rec in
-    let f = wireOf b in
-    let some-due = any (λ i. due (r .plan) (r .board) i (r .round)) (r .plan .n) in
-    let (e1, e2) = both-taken (judgeOpen b) _ (ap (λ o. o .number) e) in
-    let on : some-due ≡ true = cases some-due (λ x. x) (λ x. absurd (let z : 16 ≡ 0 = rw x at e2 in let y : ⊥ = omega arith in y)) in
-    let fits : ltb (length out) (length f) ≡ false = passed (ltb (length out) (length f)) (refused 17) _ (omega arith) (rw on at e2) .0 in
-    let answer : judgeSending b out ≡ taken (length f ∷ []) = taken-first (judgeOpen b) _ e1 ∙ rw (on, fits) refl in
-    let size : length f ≡ k = ap (λ (o : Outcome). getD (o .values) 0 0) (sym answer ∙ e) in
-    omega (arith, ltb-false (length out) (length f) fits)
+  -- The frame of a faulty board plays no part.
+  pub hears-same : (f g : List ℕ) → (member q (h .faulty) ≡ false → f ≡ g) → (i : ℕ) (b : Board) → hearFrom h fs q f i b ≡ hearFrom h fs q g i b
+  unfolding hearFrom
+  hears-same f g e i b =
+      cases (member q (h .faulty))
+      (λ x. ap (λ y. handIn q y b) (told-faulty f b x ∙ sym (told-faulty g b x)))
+      (λ x. ap (λ y. hearFrom h fs q y i b) (e x))
 
-module _ (h : Head) (q : ℕ) (b : Board) where
-  pub from-dealer : q ≡ h .plan .dealer → dealtFrame h ≡ frameFrom h q b
-  unfolding frameFrom
-  from-dealer e = rw (eq-eqb q (h .plan .dealer) e) refl
-
-  pub from-sender : (k : ℕ) (out : List ℕ) → q ≢ h .plan .dealer → out ≡ replicate frameRoom 0 → taken (k ∷ []) ≡ sending b out .answer
-      → take k (sending b out .out) ≡ frameFrom h q b
-  unfolding frameFrom isTaken
-  from-sender k out ne e t =
-      let t′ : sending b (replicate frameRoom 0) .answer ≡ taken (k ∷ []) = ap (λ x. sending b x .answer) (sym e) ∙ sym t in
-      ap (λ x. take k (sending b x .out)) e
-      ∙ rw (ne-eqb q (h .plan .dealer) ne) (sym (ap (λ o. cond (isTaken o) (take (getD (o .values) 0 0) (sending b (replicate frameRoom 0) .out)) []) t′))
-
-  pub from-nobody : (out : List ℕ) → q ≢ h .plan .dealer → out ≡ replicate frameRoom 0 → sending b out .answer .number ≢ 0 → [] ≡ frameFrom h q b
-  unfolding frameFrom isTaken
-  from-nobody out ne e t =
-      rw (ne-eqb q (h .plan .dealer) ne, ne-eqb (sending b (replicate frameRoom 0) .answer .number) 0 (λ z. t (ap (λ x. sending b x .answer .number) e ∙ z))) refl
-
--- Board q with its part as it is lent.
-pub board-lent : (h : Head) (q : ℕ) (st : Stage) (c : ℕ) → c ≡ cellCount (h .plan .n)
-    → _≡_ {A = Board} (boardWith (getD (st .recs) q noRecord) (take (q * c + c - q * c) (drop (q * c) (st .cells)))) (boardOn (h .plan .n) st q)
-unfolding boardOn part
-board-lent h q st c size =
-    ap (λ k. boardWith (getD (st .recs) q noRecord) (take k (drop (q * c) (st .cells)))) (let z : q * c + c - q * c ≡ c = omega arith in z)
-    ∙ ap (λ k. boardWith (getD (st .recs) q noRecord) (take k (drop (q * k) (st .cells)))) size
-
--- What every board hears from board q.
-module _ (h : Head) (fs : List Frame) (q : ℕ) (st : Stage) where
-  pub heard-faulty : member q (h .faulty) ≡ true → actAll h (HearFaulty q) fs [] (h .plan .n) st ≡ hearSender h fs q st
+  pub sender-heard : (f : List ℕ) (st : Stage) → (member q (h .faulty) ≡ false → f ≡ frameFrom h q (boardOn (h .plan .n) st q))
+      → onStage h (hearFrom h fs q f) (h .plan .n) st ≡ hearSender h fs q st
   unfolding hearSender
-  heard-faulty e = rw e refl
+  sender-heard f st e = on-same h (hearFrom h fs q f) (hearFrom h fs q (frameFrom h q (boardOn (h .plan .n) st q))) (hears-same f _ e) (h .plan .n) st
 
-  pub heard-healthy : (f : List ℕ) → member q (h .faulty) ≡ false → f ≡ frameFrom h q (boardOn (h .plan .n) st q)
-      → actAll h (Hear q) fs f (h .plan .n) st ≡ hearSender h fs q st
-  unfolding hearSender
-  heard-healthy f e ef = rw e (ap (λ x. actAll h (Hear q) fs x (h .plan .n) st) ef)
-
-  pub heard-more : (t : Stage) → st ≡ hearSenders h fs q t → hearSender h fs q st ≡ hearSenders h fs (q + 1) t
+  pub heard-more : (st t : Stage) → st ≡ hearSenders h fs q t → hearSender h fs q st ≡ hearSenders h fs (q + 1) t
   unfolding hearSenders
-  heard-more t e = rw (add-one q) (ap (hearSender h fs q) e)
+  heard-more st t e = rw (add-one q) (ap (hearSender h fs q) e)

@@ -1,41 +1,44 @@
--- What all boards hear from each other in a round.
-use Prim.Native.Nat.{ℕ, zero, suc, _*_, _≤_, _<_}
+-- What all boards hear from each other in a round. A middle layer: what a board hears is `hears` of the protocol.
+use Prim.Native.Nat.{ℕ, zero, suc, _≤_}
+use mathlib.Core.Path.{_≡_}
 use mathlib.Core.Bool.{cond}
-use mathlib.Core.List.{List, []}
-use lib.Dec.{eqb}
-use lib.ListN.{length, getD, take, replicate}
+use mathlib.Core.List.{List}
+use mathlib.Core.Option.{Option, some}
+use lib.ListN.{length}
+use Rattle.codec.specs.Codec.{decode}
 use Rattle.sets.specs.Sets.{member}
-use Rattle.tree.specs.Places.{cellCount}
+use Rattle.protocol.specs.declared.head.Head.{Head}
 use Rattle.protocol.specs.Limits.{frameRoom}
 use Rattle.protocol.specs.Rounds.{Board}
-use Rattle.protocol.specs.Calls.{isTaken, sending, dealing}
+use Rattle.protocol.specs.Session.{handIn}
 use Rattle.protocol.specs.Sheet.{Frame}
-use Rattle.text.specs.declared.head.Head.{Head}
-use Rattle.stage.specs.declared.acting.Act.the-variants.{Hear, HearFaulty}
-use Rattle.stage.specs.Stage.{Stage, boardOn, actAll}
+use Rattle.protocol.specs.Playing.{findFrame, decoded}
+use Rattle.finding.specs.Frames.{Rising}
+use Rattle.stage.specs.Stage.{Stage, Roomy, boardOn, onStage}
+use Rattle.outgoing.specs.Outgoing.{frameFrom}
 
--- At most seven boards, each one's part lies within the cells, and board q is one of them.
-pub record Lent (h : Head) (cells : List ℕ) (q : ℕ) : Type 0 where
-  pub few : h .plan .n ≤ 7
-  pub room : h .plan .n * cellCount (h .plan .n) ≤ length cells
-  pub below : q < h .plan .n
+-- At most seven boards, each one's part lies within the cells, and the frame lines from `from` on rise.
+pub record Ready (h : Head) (cells text : List ℕ) (from : ℕ) : Type 0 where
+  pub roomy : Roomy h cells
+  pub rising : Rising text from
 
--- The dealer's frame; nothing if it is refused.
-unfoldable pub dealtFrame : Head → List ℕ
-dealtFrame h = let dealt = dealing (h .plan) (h .word) in cond (isTaken dealt) (dealt .values) []
+-- The length of a frame, and the buffer that it stands in.
+pub record Framed (own : ℕ) (frame : List ℕ) : Type 0 where
+  pub fits : own ≤ frameRoom
+  pub whole : length frame ≡ frameRoom
 
--- The frame of board q outside F: the dealer's, or what writing into a buffer with room for every frame gives; nothing if it is refused.
-unfoldable pub frameFrom : Head → ℕ → Board → List ℕ
-frameFrom h q b =
-    let wrote = sending b (replicate frameRoom 0) in
-    cond (eqb q (h .plan .dealer)) (dealtFrame h)
-    (cond (isTaken (wrote .answer)) (take (getD (wrote .answer .values) 0 0) (wrote .out)) [])
+-- What a board hears from board q: what the sheet's frames have for it if q is faulty, else the frame f.
+unfoldable pub told : Head → List Frame → ℕ → List ℕ → Board → Option (List ℕ)
+told h fs q f b =
+    let found = decoded (findFrame (b .rec .run) (b .rec .round) q (b .rec .board) fs) in
+    cond (member q (h .faulty)) found (some (decode f))
+
+unfoldable pub hearFrom : Head → List Frame → ℕ → List ℕ → ℕ → Board → Board
+hearFrom h fs q f i b = handIn q (told h fs q f b) b
 
 -- Every board hears board q.
 unfoldable pub hearSender : Head → List Frame → ℕ → Stage → Stage
-hearSender h fs q st =
-    let frame = frameFrom h q (boardOn (h .plan .n) st q) in
-    cond (member q (h .faulty)) (actAll h (HearFaulty q) fs [] (h .plan .n) st) (actAll h (Hear q) fs frame (h .plan .n) st)
+hearSender h fs q st = onStage h (hearFrom h fs q (frameFrom h q (boardOn (h .plan .n) st q))) (h .plan .n) st
 
 -- Every board hears the boards below k.
 unfoldable pub hearSenders : Head → List Frame → ℕ → Stage → Stage

@@ -12,8 +12,8 @@ use Rattle.hex.specs.Bytes.{isText, bytesFrom}
 use Rattle.finding.specs.Frames.{lineKey}
 use Rattle.finding.specs.Places.{lineStop}
 use Rattle.frame_lines.specs.FrameLines.{judgeLine}
-use Rattle.reader.specs.declared.sheet.Judged.{Judged}
-use Rattle.reader.specs.declared.sheet.ReadSheet.{ReadSheet}
+use Rattle.reader.specs.declared.reading.Judged.{Judged}
+use Rattle.reader.specs.declared.reading.ReadSheet.{ReadSheet}
 
 -- A verdict on a sheet: for a refusal its line before its values.
 unfoldable pub judgedSays : Judged → Outcome

@@ -1,2 +1,2 @@
 // Reading a sheet: it is judged whole, line by line.
-pub mod sheet;
+pub mod reading;

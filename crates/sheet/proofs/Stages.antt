@@ -44,7 +44,7 @@ use Rattle.sheet.specs.Steps.{playStep, framesLeft, playSteps}
 use Rattle.walk.proofs.Whole.{rounds-most}
 use Rattle.hearing.proofs.Sender.{from-dealer, from-sender, heard-faulty}
 use Rattle.sheet.proofs.Steps.{sought-left}
-use Rattle.stage.proofs.Parts.{replace, laid, laid-same, laid-own, laid-part, laid-replace}
+use Rattle.tree.proofs.Parts.{replace, laid, laid-same, laid-own, laid-part, laid-replace}
 
 -- Nothing is due from the board to anybody: writing is refused.
 silent : (b : Board) (out : List ℕ) → Open b → any (λ i. due (b .rec .plan) (b .rec .board) i (b .rec .round)) (b .rec .plan .n) ≡ false

@@ -1,10 +1,10 @@
--- All rounds of all runs, step by step.
+-- All rounds of all runs, step by step. A middle layer: all rounds are `session` of the protocol.
 use Prim.Native.Nat.{ℕ, zero, suc}
-use mathlib.Core.List.{List, []}
+use mathlib.Core.List.{List}
 use Rattle.plan.specs.declared.plan.Plan.{Plan}
 use Rattle.schedule.specs.Schedule.{stepRun, stepRound}
 use Rattle.protocol.specs.Sheet.{Frame}
-use Rattle.text.specs.declared.head.Head.{Head}
+use Rattle.protocol.specs.declared.head.Head.{Head}
 use Rattle.finding.specs.Frames.{keyOf, skipFrames}
 use Rattle.stage.specs.declared.acting.Act.the-variants.{Begin, Close}
 use Rattle.stage.specs.Stage.{Stage, actAll}
@@ -12,7 +12,7 @@ use Rattle.hearing.specs.Hearing.{hearSenders}
 
 -- One round of all boards: they hear all others and close.
 unfoldable pub playStep : Head → List Frame → Stage → Stage
-playStep h fs st = actAll h Close fs [] (h .plan .n) (hearSenders h fs (h .plan .n) st)
+playStep h fs st = actAll h Close (h .plan .n) (hearSenders h fs (h .plan .n) st)
 
 -- The least key of a frame in step j; steps are the rounds over all runs, from 0.
 unfoldable pub stepKey : Plan → ℕ → ℕ
@@ -25,5 +25,5 @@ framesLeft p (suc j) fs = skipFrames (stepKey p j) (framesLeft p j fs)
 
 -- All boards begin, then hear and close in j steps, each with what is left of the frames.
 unfoldable pub playSteps : Head → List Frame → ℕ → Stage → Stage
-playSteps h fs zero st = actAll h Begin fs [] (h .plan .n) st
+playSteps h fs zero st = actAll h Begin (h .plan .n) st
 playSteps h fs (suc j) st = playStep h (framesLeft (h .plan) (suc j) fs) (playSteps h fs j st)

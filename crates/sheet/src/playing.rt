@@ -3,39 +3,31 @@ use crate::rounds::play_rounds;
 use codec::value::Value;
 use printer::printing::print_boards;
 use protocol::answers::Played;
+use protocol::head::Head;
 use protocol::limits::CELLS;
 use protocol::limits::OUTPUT;
 use protocol::limits::SHEET;
-use reader::judgement::read_sheet;
+use reader::reading::read_sheet;
 use refusals::refusal::Refusal;
 use refusals::refusal::Verdict;
-use text::head::Head;
 ghost use mathlib.Core.Path.{_≡_};
 ghost use mathlib.Core.List.{[], _∷_};
 ghost use Prim.Native.Nat.{_+_, _≤_};
-ghost use lib.ListN.{length, take};
+ghost use lib.ListN.{length};
 ghost use Rattle.refusals.specs.Outcome.{taken};
 ghost use Rattle.protocol.specs.Limits.{outputNeeded, cellsNeeded};
 ghost use Rattle.protocol.specs.Answers.{playedSays};
 ghost use Rattle.protocol.specs.Sheet.{reading};
 ghost use Rattle.protocol.specs.Playing.{playHead, playing};
-ghost use Rattle.text.specs.Text.{headFrom};
 ghost use Rattle.finding.specs.Places.{lineStop};
 
 // A sheet that is accepted, by its head and where its frame lines begin; the bytes written.
 fn play_sheet(head: Head, text: &[u8], from: usize, cells: &mut [Value], out: &mut [u8]) -> usize
-    requires { ⌜ (reading (now text) .answer .number ≡ 0) × (cellsNeeded ≤ length (now cells)) × (outputNeeded ≤ length (now out)) × (head ≡ headFrom (take (lineStop (now text) 0) (now text))) × (from ≡ lineStop (now text) 0 + 1) ⌝ }
+    requires { ⌜ (reading (now text) .answer .number ≡ 0) × (cellsNeeded ≤ length (now cells)) × (outputNeeded ≤ length (now out)) × (head ≡ reading (now text) .head) × (from ≡ lineStop (now text) 0 + 1) ⌝ }
     ensures { λ r. ⌜ (taken (r ∷ []) ≡ playHead (reading (now (text .entry)) .head) (reading (now (text .entry)) .frames) (now (cells .entry)) (now (out .entry)) .answer) × (now (cells .exit) ≡ playHead (reading (now (text .entry)) .head) (reading (now (text .entry)) .frames) (now (cells .entry)) (now (out .entry)) .cells) × (now (out .exit) ≡ playHead (reading (now (text .entry)) .head) (reading (now (text .entry)) .frames) (now (cells .entry)) (now (out .entry)) .out) ⌝ }
 {
     let records = play_rounds(head, text, from, cells);
-    print_boards(
-        head.plan.n,
-        head.plan.dealer,
-        head.faulty,
-        head.word,
-        records,
-        out,
-    )
+    print_boards(head, records, out)
 }
 
 // Playing a sheet: 20, 17, 11, then line by line.

@@ -4,6 +4,7 @@ use codec::value::Value;
 use finding::finding::skip_to;
 use hearing::senders::hear_all;
 use plan::plan::Plan;
+use protocol::head::Head;
 use protocol::records::Record;
 use schedule::rounds::Round;
 use schedule::rounds::Run;
@@ -11,14 +12,13 @@ use schedule::rounds::rounds;
 use schedule::rounds::steps;
 use stage::acting::Act;
 use stage::acting::act_all;
-use text::head::Head;
 ghost use mathlib.Core.Path.{_≡_};
 ghost use Prim.Native.Nat.{_<_};
 ghost use lib.ListN.{replicate};
 ghost use Rattle.schedule.specs.Schedule.{steps};
 ghost use Rattle.protocol.specs.Calls.{voidRecord};
 ghost use Rattle.finding.specs.Frames.{framesFrom, skipFrames};
-ghost use Rattle.stage.specs.Stage.{Ready};
+ghost use Rattle.hearing.specs.Hearing.{Ready};
 ghost use Rattle.sheet.specs.Steps.{playStep, stepKey, playSteps};
 
 // Records of boards that have not begun.
@@ -41,7 +41,7 @@ fn play_round(
     ensures { λ r. ⌜ (r ≡ playStep head (framesFrom (now (text .entry)) from) (record { recs = records; cells = now (cells .entry) }) .recs) × (now (cells .exit) ≡ playStep head (framesFrom (now (text .entry)) from) (record { recs = records; cells = now (cells .entry) }) .cells) ⌝ }
 {
     let heard = hear_all(head, text, from, records, cells);
-    act_all(head, Act::Close, text, from, &text[0..0], heard, cells)
+    act_all(head, Act::Close, heard, cells)
 }
 
 // Where the first frame line from `from` on begins that is not before step j; steps are the rounds over all runs, from 0.
@@ -66,15 +66,7 @@ pub fn play_rounds(head: Head, text: &[u8], from: usize, cells: &mut [Value]) ->
 {
     let plan = head.plan;
     let steps = steps(plan);
-    let mut all = act_all(
-        head,
-        Act::Begin,
-        text,
-        from,
-        &text[0..0],
-        void_records(),
-        cells,
-    );
+    let mut all = act_all(head, Act::Begin, void_records(), cells);
     let mut at = from;
     let mut j: usize = 0;
     while j < steps {

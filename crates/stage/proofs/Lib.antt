@@ -1,3 +1,2 @@
-pub mod Parts
+pub mod Room
 pub mod Turn
-pub mod FromSheet

@@ -1,8 +1,8 @@
 -- One board more has acted: what the code has in hand.
 -- Assumes nothing.
-use Prim.Native.Nat.{ℕ, _+_, _-_, _*_}
-use mathlib.Core.Path.{_≡_, ap, ap₂, _∙_}
-use mathlib.Core.Bool.{true, false}
+use Prim.Native.Nat.{ℕ, zero, suc, _+_, _-_, _*_}
+use mathlib.Core.Path.{_≡_, refl, ap, ap₂, _∙_}
+use mathlib.Core.Bool.{true, false, cond}
 use mathlib.Core.List.{List, _++_}
 use native.Mathlib.Numerals.{add-one}
 use native.Mathlib.Omega.{arith}
@@ -11,23 +11,29 @@ use lib.Seq.{drop-drop}
 use Rattle.tree.specs.Places.{cellCount}
 use Rattle.protocol.specs.declared.records.Record.{Record}
 use Rattle.protocol.specs.Rounds.{boardWith, Board}
-use Rattle.protocol.specs.Sheet.{Frame}
 use Rattle.protocol.specs.Playing.{part, replacePart}
-use Rattle.text.specs.declared.head.Head.{Head}
-use Rattle.stage.specs.declared.acting.Act.{Act}
-use Rattle.stage.specs.Stage.{Stage, noRecord, boardOn, keeps, acted, putBoard, actAll}
+use Rattle.protocol.specs.declared.head.Head.{Head}
+use Rattle.stage.specs.Stage.{Stage, noRecord, boardOn, keeps, putBoard, onStage}
 
 pub length-lent : (xs ys : List ℕ) (a k : ℕ) → length ys ≡ length (take k (drop a xs)) → length (take a xs ++ (ys ++ drop k (drop a xs))) ≡ length xs
 length-lent xs ys a k e = simp (length-append, e, length-drop, length-take) (omega arith)
 
-module _ (h : Head) (act : Act) (fs : List Frame) (f : List ℕ) (t : Stage) (i : ℕ) where
-  pub turn-kept : (st : Stage) → st ≡ actAll h act fs f i t → keeps h i ≡ true
-      → putBoard (h .plan .n) i (acted (h .plan) act fs f i (boardOn (h .plan .n) st i)) st ≡ actAll h act fs f (i + 1) t
-  unfolding actAll
-  turn-kept st e k = rw (add-one i, k) (ap (λ x. putBoard (h .plan .n) i (acted (h .plan) act fs f i (boardOn (h .plan .n) x i)) x) e)
+-- Boards that do the same leave the same.
+pub on-same : (h : Head) (f g : ℕ → Board → Board) → ((i : ℕ) (b : Board) → f i b ≡ g i b) → (k : ℕ) (st : Stage) → onStage h f k st ≡ onStage h g k st
+unfolding onStage
+on-same h f g e zero st = refl
+on-same h f g e (suc k) st =
+    let before = onStage h f k st in
+    let done = ap (λ b. cond (keeps h k) (putBoard (h .plan .n) k b before) before) (e k (boardOn (h .plan .n) before k)) in
+    done ∙ ap (λ x. cond (keeps h k) (putBoard (h .plan .n) k (g k (boardOn (h .plan .n) x k)) x) x) (on-same h f g e k st)
 
-  pub turn-left : (st : Stage) → st ≡ actAll h act fs f i t → keeps h i ≡ false → st ≡ actAll h act fs f (i + 1) t
-  unfolding actAll
+module _ (h : Head) (f : ℕ → Board → Board) (t : Stage) (i : ℕ) where
+  turn-kept : (st : Stage) → st ≡ onStage h f i t → keeps h i ≡ true → putBoard (h .plan .n) i (f i (boardOn (h .plan .n) st i)) st ≡ onStage h f (i + 1) t
+  unfolding onStage
+  turn-kept st e k = rw (add-one i, k) (ap (λ x. putBoard (h .plan .n) i (f i (boardOn (h .plan .n) x i)) x) e)
+
+  pub turn-left : (st : Stage) → st ≡ onStage h f i t → keeps h i ≡ false → st ≡ onStage h f (i + 1) t
+  unfolding onStage
   turn-left st e k = rw (add-one i, k) e
 
   -- With the part of the cells as it is lent.
@@ -52,9 +58,9 @@ module _ (h : Head) (act : Act) (fs : List Frame) (f : List ℕ) (t : Stage) (i 
         ∙ ap (λ k. record { recs = set recs i x; cells = take (i * k) cells ++ (ys ++ drop (i * k + k) cells) }) size
         ∙ ap₂ (λ u v. record { recs = set recs i u; cells = take (i * cellCount (h .plan .n)) cells ++ (v ++ drop (i * cellCount (h .plan .n) + cellCount (h .plan .n)) cells) }) ex ey
 
-    pub turn : _≡_ {A = Stage} (record { recs = recs; cells = cells }) (actAll h act fs f i t) → keeps h i ≡ true
-        → x ≡ acted (h .plan) act fs f i lent .rec → ys ≡ acted (h .plan) act fs f i lent .cells → left ≡ actAll h act fs f (i + 1) t
+    pub turn : _≡_ {A = Stage} (record { recs = recs; cells = cells }) (onStage h f i t) → keeps h i ≡ true
+        → x ≡ f i lent .rec → ys ≡ f i lent .cells → left ≡ onStage h f (i + 1) t
     turn e k ex ey =
-        let b = acted (h .plan) act fs f i (boardOn (h .plan .n) (record { recs = recs; cells = cells }) i) in
-        left-is b (ex ∙ ap (λ y. acted (h .plan) act fs f i y .rec) lent-is) (ey ∙ ap (λ y. acted (h .plan) act fs f i y .cells) lent-is)
+        let b = f i (boardOn (h .plan .n) (record { recs = recs; cells = cells }) i) in
+        left-is b (ex ∙ ap (λ y. f i y .rec) lent-is) (ey ∙ ap (λ y. f i y .cells) lent-is)
         ∙ turn-kept (record { recs = recs; cells = cells }) e k

@@ -13,3 +13,4 @@ pub mod Boards
 pub mod Descent
 pub mod ChildIndex
 pub mod NodePlaces
+pub mod Parts

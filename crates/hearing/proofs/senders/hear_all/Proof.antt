@@ -27,7 +27,7 @@ hear-sender-requires : tie.Need-hear-sender-requires Inv-loop μ-loop
 hear-sender-requires c κs =
     let s = c .before .before .before .before .before in
     let l = c .before .before .loop in
-    (record { few = s .pre .few; room = omega (arith, s .pre .room, l .inv .2); rising = s .pre .rising }, omega arith)
+    (record { roomy = record { few = s .pre .roomy .few; room = omega (arith, s .pre .roomy .room, l .inv .2) }; rising = s .pre .rising }, omega arith)
 
 loop-again : tie.Need-loop-again Inv-loop μ-loop
 loop-again c =

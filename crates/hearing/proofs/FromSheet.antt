@@ -1,11 +1,11 @@
--- A frame of the sheet, read into 121 bytes, is heard as it stands in the sheet.
+-- A frame of the sheet, read into a buffer with room for every frame and one byte, is heard as it stands in the sheet.
 -- Assumes nothing.
 use Prim.Native.Nat.{ℕ, _-_, _≤_}
-use mathlib.Core.Path.{_≡_, refl, sym, ap, _∙_}
+use mathlib.Core.Path.{_≡_, sym, ap, _∙_}
 use mathlib.Core.List.{List}
 use mathlib.Core.Option.{Option, some, none}
 use native.Mathlib.Omega.{arith}
-use lib.ListN.{take, replicate}
+use lib.ListN.{length, take}
 use Rattle.protocol.specs.Limits.{frameRoom}
 use Rattle.protocol.specs.Rounds.{Board}
 use Rattle.protocol.specs.Calls.{receiving}
@@ -23,11 +23,11 @@ module _ (v : Option (List ℕ)) where
   pub read-fits : (room k : ℕ) → some k ≡ readLength v room → k ≤ room
   read-fits room k e = let (vs, _, z) = read-frame-is v room k (sym e) in omega (arith, z)
 
-  pub read-heard : (k q : ℕ) (b : Board) → some k ≡ readLength v frameRoom
-      → receiving b q (take (k - 0) (readValues v (replicate frameRoom 0))) .board ≡ handIn q (decoded v) b
+  pub read-heard : (k q : ℕ) (b : Board) (buffer : List ℕ) → length buffer ≡ frameRoom → some k ≡ readLength v frameRoom
+      → receiving b q (take (k - 0) (readValues v buffer)) .board ≡ handIn q (decoded v) b
   unfolding handIn decoded receiving
-  read-heard k q b e =
+  read-heard k q b buffer room e =
       let (vs, x, _) = read-frame-is v frameRoom k (sym e) in
-      let whole : take (k - 0) (readValues v (replicate frameRoom 0)) ≡ take frameRoom vs =
-      ap (λ m. take m (readValues v (replicate frameRoom 0))) (let z : k - 0 ≡ k = omega arith in z) ∙ read-taken v vs (replicate frameRoom 0) frameRoom k x refl (sym e) in
+      let whole : take (k - 0) (readValues v buffer) ≡ take frameRoom vs =
+      ap (λ m. take m (readValues v buffer)) (let z : k - 0 ≡ k = omega arith in z) ∙ read-taken v vs buffer frameRoom k x room (sym e) in
       ap (λ f. receiving b q f .board) whole ∙ ap (λ y. y .board) (overlong b q vs) ∙ ap (λ x. handIn q (decoded x) b) (sym x)

@@ -15,8 +15,8 @@ use Rattle.finding.specs.Frames.{lineKey}
 use Rattle.frame_lines.specs.FrameLines.{judgeLine}
 use Rattle.reader.specs.Reading.{judgedSays, JudgedAs, judgeLines}
 use Rattle.reader.proofs.Places.{at-end, at-wrong, at-good, at-ended, key-below}
-use Rattle.reader.proofs.sheet.judge_frames.Statement.{statement}
-use Rattle.reader.proofs.sheet.judge_frames.Tie as tie
+use Rattle.reader.proofs.reading.judge_frames.Statement.{statement}
+use Rattle.reader.proofs.reading.judge_frames.Tie as tie
 
 abbrev Inv-loop : tie.InvT-loop
 Inv-loop text plan faulty from at₀ line₀ least₀ at line least =

@@ -8,10 +8,10 @@ use Rattle.refusals.proofs.Outcomes.{refusal-number}
 use Rattle.protocol.specs.Limits.{frameRoom}
 use Rattle.protocol.specs.Answers.{sentSays}
 use Rattle.protocol.specs.Rounds.{boardWith, Board}
-use Rattle.hearing.proofs.Sender.{sending-fits, from-dealer, from-sender, from-nobody}
+use Rattle.outgoing.proofs.Sender.{sending-fits, from-dealer, from-sender, from-nobody}
 use borrow.Author.Needs.{needs}
-use Rattle.hearing.proofs.senders.frame_of.Statement.{statement}
-use Rattle.hearing.proofs.senders.frame_of.Tie as tie
+use Rattle.outgoing.proofs.written.frame_of.Statement.{statement}
+use Rattle.outgoing.proofs.written.frame_of.Tie as tie
 
 dealer-frame-requires : tie.Need-dealer-frame-requires
 dealer-frame-requires c κs = let e = ap length (c .before .before .before .before .pre) ∙ length-replicate {A = ℕ} frameRoom 0 in omega (arith, e)

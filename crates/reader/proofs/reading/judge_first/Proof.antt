@@ -9,8 +9,8 @@ use Rattle.sets.proofs.Tests.{not-t, not-f}
 use Rattle.refusals.specs.Outcome.{refusal, verdict}
 use Rattle.text.proofs.LineEnds.{stop-le}
 use Rattle.reader.proofs.Places.{top-none, top-open, top-other, top-good}
-use Rattle.reader.proofs.sheet.judge_first.Statement.{statement}
-use Rattle.reader.proofs.sheet.judge_first.Tie as tie
+use Rattle.reader.proofs.reading.judge_first.Statement.{statement}
+use Rattle.reader.proofs.reading.judge_first.Tie as tie
 
 returns : tie.Need-returns
 unfolding verdict refusal

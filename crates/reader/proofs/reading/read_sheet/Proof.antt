@@ -6,8 +6,8 @@ use native.Mathlib.Omega.{arith}
 use borrow.Author.Needs.{needs}
 use Rattle.text.proofs.LineEnds.{stop-le}
 use Rattle.reader.proofs.Accepted.{sheet-given}
-use Rattle.reader.proofs.sheet.read_sheet.Statement.{statement}
-use Rattle.reader.proofs.sheet.read_sheet.Tie as tie
+use Rattle.reader.proofs.reading.read_sheet.Statement.{statement}
+use Rattle.reader.proofs.reading.read_sheet.Tie as tie
 
 part-read-head-end : tie.Need-part-read-head-end
 part-read-head-end c = omega (arith, c .line-end .ensures, stop-le (c .before .before .args .text .now) 0 (omega arith))

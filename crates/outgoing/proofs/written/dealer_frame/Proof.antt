@@ -5,10 +5,10 @@ use native.Mathlib.Omega.{arith}
 use lib.Seq.{take-suc-set}
 use Rattle.refusals.proofs.Outcomes.{refusal-number}
 use Rattle.protocol.specs.Answers.{dealtSays}
-use Rattle.hearing.proofs.Sender.{dealt-taken, dealt-refused}
+use Rattle.outgoing.proofs.Sender.{dealt-taken, dealt-refused}
 use borrow.Author.Needs.{needs}
-use Rattle.hearing.proofs.senders.dealer_frame.Statement.{statement}
-use Rattle.hearing.proofs.senders.dealer_frame.Tie as tie
+use Rattle.outgoing.proofs.written.dealer_frame.Statement.{statement}
+use Rattle.outgoing.proofs.written.dealer_frame.Tie as tie
 
 returns : tie.Need-returns
 unfolding dealtSays

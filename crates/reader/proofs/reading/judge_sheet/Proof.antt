@@ -12,8 +12,8 @@ use Rattle.protocol.specs.Sheet.{lines, headOf}
 use Rattle.protocol.proofs.Sheets.{head-good}
 use Rattle.reader.specs.Reading.{judgeLines}
 use Rattle.reader.proofs.WholeSheet.{sheet-begun, sheet-said, sheet-far, sheet-answer}
-use Rattle.reader.proofs.sheet.judge_sheet.Statement.{statement}
-use Rattle.reader.proofs.sheet.judge_sheet.Tie as tie
+use Rattle.reader.proofs.reading.judge_sheet.Statement.{statement}
+use Rattle.reader.proofs.reading.judge_sheet.Tie as tie
 
 add-judge-frames : tie.Need-add-judge-frames
 unfolding verdict

@@ -1,0 +1,2 @@
+// The frame of a board outside F.
+pub mod written;

@@ -1,0 +1,70 @@
+// The frame that a board outside F writes.
+use beginning::dealing::deal;
+use codec::value::Value;
+use protocol::answers::Dealt;
+use protocol::answers::Sent;
+use protocol::head::Head;
+use protocol::records::Record;
+use sending::sending::send;
+use sets::boards::member;
+use tree::levels::cell_count;
+ghost use mathlib.Core.Path.{_≡_};
+ghost use mathlib.Core.Bool.{false};
+ghost use Prim.Native.Nat.{_≤_, _<_};
+ghost use lib.ListN.{length, take, replicate};
+ghost use Rattle.sets.specs.Sets.{member};
+ghost use Rattle.protocol.specs.Limits.{frameRoom};
+ghost use Rattle.protocol.specs.Rounds.{boardWith};
+ghost use Rattle.stage.specs.Stage.{Roomy, boardOn};
+ghost use Rattle.outgoing.specs.Outgoing.{dealtFrame, frameFrom};
+
+// The dealer's frame; its length.
+fn dealer_frame(head: Head, frame: &mut [u8]) -> usize
+    requires { ⌜ 1 ≤ length (now frame) ⌝ }
+    ensures { λ k. ⌜ (k ≤ 1) × (take k (now (frame .exit)) ≡ dealtFrame head) ⌝ }
+{
+    let plan = head.plan;
+    match deal(plan, head.word) {
+        Dealt::Frame(v) => {
+            frame[0] = v;
+            1
+        }
+        Dealt::Refused(_) => 0,
+    }
+}
+
+// The frame of board q, which is outside F; its length.
+fn frame_of(head: Head, q: u8, r: Record, cells: &[Value], frame: &mut [u8]) -> usize
+    requires { ⌜ now frame ≡ replicate frameRoom 0 ⌝ }
+    ensures { λ k. ⌜ (k ≤ frameRoom) × (take k (now (frame .exit)) ≡ frameFrom head q (boardWith r (now (cells .entry)))) ⌝ }
+{
+    let dealer = head.plan.dealer;
+    if q == dealer {
+        return dealer_frame(head, frame);
+    }
+    match send(r, cells, frame) {
+        Sent::Length(k) => k,
+        Sent::Refused(_) => 0,
+    }
+}
+
+// The frame of board q, by its record and its part of the cells; its length, 0 if q is faulty.
+pub fn sender_frame(
+    head: Head,
+    q: u8,
+    records: [Record; 7],
+    cells: &[Value],
+    frame: &mut [u8],
+) -> usize
+    requires { ⌜ Roomy head (now cells) × (q < head .plan .n) × (now frame ≡ replicate frameRoom 0) ⌝ }
+    ensures { λ k. ⌜ (k ≤ frameRoom) × (member q (head .faulty) ≡ false → take k (now (frame .exit)) ≡ frameFrom head q (boardOn (head .plan .n) (record { recs = records; cells = now (cells .entry) }) q)) ⌝ }
+{
+    if member(head.faulty, q) {
+        return 0;
+    }
+    let size = cell_count(head.plan.n);
+    let a = q as usize * size;
+    let e = a + size;
+    let r = records[q as usize];
+    frame_of(head, q, r, &cells[a..e], frame)
+}
