@@ -29,7 +29,7 @@ use Rattle.protocol.specs.declared.records.Record.{Record}
 use Rattle.protocol.specs.Rounds.{Board}
 use Rattle.protocol.specs.Calls.{judgeOpen, judgeRecord, judgeBoard, judgeBeginning, closing, deciding}
 use Rattle.protocol.specs.Session.{Setting, begun, at}
-use Rattle.protocol.specs.Lists.{Call, closes, decides, caller, leaves, answers, state, after, keeper, Prefix, Stands, Sound, Fair, closings, PastLast, EndsRun, root, list, onEvery, listAfter, Agreement, Demand3}
+use Rattle.protocol.specs.Lists.{Call, closes, decides, caller, leaves, answers, state, keeper, Prefix, Stands, Sound, Fair, closings, PastLast, EndsRun, root, list, onEvery, listAfter, Agreement, Demand3}
 use Rattle.protocol.specs.Claims.{ended, rootAfter, listEnded}
 use Rattle.protocol.proofs.Judgement.{open-facts, open-taken, record-taken, board-taken, cells-taken, Good}
 use Rattle.protocol.proofs.Reached.{reached-begun, reached-after}

@@ -26,18 +26,18 @@ use Rattle.plan.specs.Calls.{judged}
 use Rattle.refusals.proofs.Outcomes.{passed, both-taken, taken-first}
 use Rattle.schedule.proofs.Steps.{step-of-round}
 use Rattle.protocol.specs.declared.records.Record.{Record}
-use Rattle.protocol.specs.Nodes.{sent, due, frame}
+use Rattle.protocol.specs.Nodes.{sent, due}
 use Rattle.protocol.specs.Rounds.{boardWith, Board, counted, receive}
 use Rattle.protocol.specs.Calls.{isTaken, judgeOpen, judgeReceiving, taking, receiving, frameOf, wireOf, judgeSending, sending, closing, dealing}
-use Rattle.protocol.specs.Session.{Adversary, Setting, begun, hears, session, at}
-use Rattle.protocol.specs.Lists.{Call, isClosing, receives, sends, closes, decides, caller, leaves, answers, step, state, after, keeper, Prefix, Stands, Taken, Sound, Written, Fair, closings}
+use Rattle.protocol.specs.Session.{Adversary, Setting, begun, hears, at}
+use Rattle.protocol.specs.Lists.{Call, isClosing, receives, sends, closes, decides, caller, leaves, answers, state, after, keeper, Prefix, Stands, Taken, Sound, Written, Fair, closings}
 use Rattle.protocol.proofs.Judgement.{is-taken, taken-is, Good, Open, open-facts, open-taken}
 use Rattle.protocol.proofs.Reached.{receiving-facts, taking-taken, taking-refused, closing-refused}
 use Rattle.protocol.specs.Records.{withTaken}
 use Rattle.protocol.proofs.Hearing.{marks, heardCells, accepts, content, isGiven, heard-open, hear-shape}
 use Rattle.protocol.proofs.Synchronous.{canon, Standing, standing, keeper-facts, at-start, at-next, told}
 use Rattle.protocol.proofs.Session.{synchronous}
-use Rattle.protocol.proofs.Prefixes.{state-next, step-own, step-other, takes-other, takes-refused, ends, ends-not, ends-untaken, closings-same, closings-taken, closings-mono, prefix-refl, prefix-trans, stands-prefix, along}
+use Rattle.protocol.proofs.Prefixes.{state-next, step-own, step-other, takes-other, takes-refused, ends-not, ends-untaken, closings-same, closings-taken, closings-mono, prefix-refl, prefix-trans, stands-prefix, along}
 use Rattle.protocol.proofs.Inbox.{took, isFrom, enters-not, enters-from, enters-untaken, took-skip, took-at, took-here, took-closed, took-new}
 use Rattle.protocol.proofs.AnyOrder.{update, update-here, update-other, heard-more, heard-taken, heard-same, heard-none, heard-frame}
 

@@ -37,7 +37,7 @@ use Rattle.protocol.proofs.Listing.{listOf}
 use Rattle.protocol.proofs.Synchronous.{standing, ready, ready-open, after-step}
 use Rattle.protocol.proofs.Delivery.{good, healthy, healthy-keeper, st}
 use Rattle.protocol.proofs.Soundness.{open-round, inv, run-ends, lists-within}
-use Rattle.protocol.proofs.Agreement.{last-step, in-time, at-end, number, run-number, cells, lists, roots, resolved, left-root, session}
+use Rattle.protocol.proofs.Agreement.{last-step, in-time, at-end, number, run-number, lists, roots, resolved, left-root, session}
 
 module _ (s : Setting) (a : Adversary) (sound : Sound s) where
   abbrev plan : Plan

@@ -9,7 +9,7 @@ use mathlib.Core.Option.{Option, some, none}
 use native.Mathlib.Omega.{arith}
 use native.Mathlib.Nat.{mul-le-mul-right}
 use lib.Dec.{eqb, leb, ltb}
-use lib.ListN.{length, getD, drop, replicate, length-drop}
+use lib.ListN.{length, drop, replicate, length-drop}
 use lib.Seq.{take-append-seam, length-take-le}
 use borrow.Author.Tests.{eqb-true, eqb-false, eq-eqb, ne-eqb, leb-false, ltb-true}
 use Rattle.sets.specs.Sets.{within, boards}

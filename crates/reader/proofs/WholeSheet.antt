@@ -18,7 +18,7 @@ use Rattle.sets.proofs.Tests.{cases, same-test, and-l, and-r}
 use Rattle.schedule.specs.Schedule.{hasRound}
 use Rattle.refusals.specs.declared.refusal.Refusal.{Refusal}
 use Rattle.refusals.specs.declared.refusal.Verdict.the-variants.{Refused}
-use Rattle.refusals.specs.Outcome.{refused, refusal, verdict}
+use Rattle.refusals.specs.Outcome.{refusal, verdict}
 use Rattle.refusals.proofs.Outcomes.{refusal-number}
 use Rattle.protocol.specs.Nodes.{due}
 use Rattle.protocol.specs.declared.head.Head.{Head}

@@ -23,26 +23,26 @@ use Rattle.sets.specs.Search.{any}
 use Rattle.protocol.specs.Limits.{cellsNeeded, frameRoom}
 use Rattle.protocol.specs.Nodes.{due}
 use Rattle.protocol.specs.Rounds.{boardWith, Board}
-use Rattle.protocol.specs.Calls.{isTaken, voidRecord, judgeOpen, judgeSending, dealing, taking, receiving, sending, frameOf, wireOf, beginning}
+use Rattle.protocol.specs.Calls.{isTaken, voidRecord, judgeOpen, judgeSending, dealing, taking, receiving, sending, frameOf, wireOf}
 use Rattle.protocol.specs.Session.{Adversary, Setting, boardAt, begun, hears, handIn, at, takeAll}
 use Rattle.protocol.specs.Lists.{keeper, Sound}
-use Rattle.protocol.specs.Sheet.{Frame, headPlan}
-use Rattle.protocol.specs.Sheet as S
+use Rattle.protocol.specs.declared.head.Head.{Head}
+use Rattle.protocol.specs.Sheet.{Frame}
 use Rattle.protocol.specs.Playing.{findFrame, decoded, sheetAdversary, part, replacePart, setting, finalCells, finalBoards}
 use Rattle.protocol.proofs.Synchronous.{at-start, at-next, told, keeper-facts}
 use Rattle.protocol.proofs.PartHeard.{MidStep, part-heard, cells-kept}
 use Rattle.protocol.proofs.Judgement.{Open, open-taken}
 use Rattle.protocol.proofs.Few.{sends, unsent}
 use Rattle.protocol.proofs.Fairness.{sending-gives}
-use Rattle.protocol.proofs.Sheets.{GoodHead, head-n, head-dealer, parts-most, part-length}
-use Rattle.text.specs.declared.head.Head.{Head}
-use Rattle.stage.specs.declared.acting.Act.{Act}
-use Rattle.stage.specs.declared.acting.Act.the-variants.{Begin, Hear, HearFaulty, Close}
-use Rattle.stage.specs.Stage.{Stage, noRecord, boardOn, keeps, acted, putBoard, actAll}
-use Rattle.hearing.specs.Hearing.{dealtFrame, frameFrom, hearSender, hearSenders}
+use Rattle.protocol.proofs.Sheets.{GoodHead, few-boards, parts-most, part-length}
+use Rattle.stage.specs.declared.acting.Act.the-variants.{Begin, Close}
+use Rattle.stage.specs.Stage.{Stage, noRecord, boardOn, keeps, acted, putBoard, onStage}
+use Rattle.outgoing.specs.Outgoing.{dealtFrame, frameFrom}
+use Rattle.hearing.specs.Hearing.{hearFrom, hearSender, hearSenders}
 use Rattle.sheet.specs.Steps.{playStep, framesLeft, playSteps}
 use Rattle.walk.proofs.Whole.{rounds-most}
-use Rattle.hearing.proofs.Sender.{from-dealer, from-sender, heard-faulty}
+use Rattle.outgoing.proofs.Sender.{from-dealer, from-sender}
+use Rattle.hearing.proofs.Sender.{told-faulty, told-healthy}
 use Rattle.sheet.proofs.Steps.{sought-left}
 use Rattle.tree.proofs.Parts.{replace, laid, laid-same, laid-own, laid-part, laid-replace}
 
@@ -54,22 +54,18 @@ silent b out o x =
     let e : judgeSending b out ≡ refused 16 = taken-first (judgeOpen b) _ (ap (λ (y : Outcome). y .number) (open-taken b o)) ∙ rw x refl in
     ap (λ (y : Outcome). y .number) e
 
--- The head as the code has it.
-unfoldable pub codeHead : S.Head → Head
-codeHead h = record { plan = headPlan h; faulty = h .faulty; word = h .word }
-
-module _ (h : S.Head) (good : GoodHead h) (cells₀ : List ℕ) (room : cellsNeeded ≤ length cells₀) where
+module _ (h : Head) (good : GoodHead h) (cells₀ : List ℕ) (room : cellsNeeded ≤ length cells₀) where
   abbrev s : Setting
   s = setting h cells₀
 
   abbrev n : ℕ
-  n = headPlan h .n
+  n = h .plan .n
 
   abbrev c : ℕ
   c = cellCount n
 
   few : n ≤ 7
-  few = subst (λ k. k ≤ 7) (sym (head-n h good)) (good .most-boards)
+  few = few-boards h good
 
   enough : n * c ≤ length cells₀
   enough = omega (arith, parts-most n few)
@@ -78,8 +74,8 @@ module _ (h : S.Head) (good : GoodHead h) (cells₀ : List ℕ) (room : cellsNee
   unfolding keeper setting
   kept-below i k = ltb-true i n (and-l (ltb i n) _ k)
 
-  keeps-kept : (i : ℕ) → i < n → keeper s i ≡ keeps (codeHead h) i
-  unfolding keeper keeps codeHead setting
+  keeps-kept : (i : ℕ) → i < n → keeper s i ≡ keeps h i
+  unfolding keeper keeps setting
   keeps-kept i l = rw (lt-ltb i n l) refl
 
   -- The stage holds these boards.
@@ -132,33 +128,33 @@ module _ (h : S.Head) (good : GoodHead h) (cells₀ : List ℕ) (room : cellsNee
           → replacePart n i (b .cells) (st .cells) ≡ replace (i * c) c (b .cells) (laid (keeper s) c (λ j. w j .cells) n cells₀)
       placed e = ap (replacePart n i (b .cells)) e ∙ unfold replacePart replace in refl
 
-  -- All boards act.
-  module _ (w : ℕ → Board) (st : Stage) (x : Holds w st) (act : Act) (fs : List Frame) (f : List ℕ) where
+  -- All boards do f.
+  module _ (w : ℕ → Board) (st : Stage) (x : Holds w st) (f : ℕ → Board → Board) where
     abbrev next : ℕ → Board
-    next i = acted (headPlan h) act fs f i (w i)
+    next i = f i (w i)
 
     abbrev partly : ℕ → ℕ → Board
     partly k i = cond (ltb i k) (next i) (w i)
 
     abbrev staged : ℕ → Stage
-    staged k = actAll (codeHead h) act fs f k st
+    staged k = onStage h f k st
 
-    turned : (k : ℕ) → keeps (codeHead h) k ≡ true → staged (suc k) ≡ putBoard n k (acted (headPlan h) act fs f k (boardOn n (staged k) k)) (staged k)
-    unfolding actAll codeHead
+    turned : (k : ℕ) → keeps h k ≡ true → staged (suc k) ≡ putBoard n k (f k (boardOn n (staged k) k)) (staged k)
+    unfolding onStage
     turned k t = rw t refl
 
-    left : (k : ℕ) → keeps (codeHead h) k ≡ false → staged (suc k) ≡ staged k
-    unfolding actAll codeHead
+    left : (k : ℕ) → keeps h k ≡ false → staged (suc k) ≡ staged k
+    unfolding onStage
     left k t = rw t refl
 
     acts-upto : ((i : ℕ) → keeper s i ≡ true → length (next i .cells) ≡ c) → (k : ℕ) → k ≤ n → Holds (partly k) (staged k)
-    acts-upto size zero l = unfold actAll in holds-same w (partly zero) st (λ i _. rw (le-ltb i 0 (omega arith)) refl) x
+    acts-upto size zero l = unfold onStage in holds-same w (partly zero) st (λ i _. rw (le-ltb i 0 (omega arith)) refl) x
     acts-upto size (suc k) l =
         let before = acts-upto size k (omega arith) in
         let here : partly k k ≡ w k = rw (le-ltb k k (omega arith)) refl in
         cases (keeper s k)
-        (λ e. let b = acted (headPlan h) act fs f k (boardOn n (staged k) k) in
-        let b-is : b ≡ next k = ap (acted (headPlan h) act fs f k) (look (partly k) (staged k) before k e ∙ here) in
+        (λ e. let b = f k (boardOn n (staged k) k) in
+        let b-is : b ≡ next k = ap (f k) (look (partly k) (staged k) before k e ∙ here) in
         subst (Holds (partly (suc k))) (sym (turned k (sym (keeps-kept k (omega arith)) ∙ e)))
         (holds-same (updated (partly k) k b) (partly (suc k)) (putBoard n k b (staged k))
         (λ i _. cases (eqb i k)
@@ -189,14 +185,13 @@ module _ (h : S.Head) (good : GoodHead h) (cells₀ : List ℕ) (room : cellsNee
     start = record { recs = replicate 7 voidRecord; cells = cells₀ }
 
     abbrev played : ℕ → Stage
-    played j = playSteps (codeHead h) fs j start
+    played j = playSteps h fs j start
 
     part-size : (i : ℕ) → keeper s i ≡ true → length (s .buffer i) ≡ c
     unfolding setting
-    part-size i k =
-        ap (λ m. length (part m i cells₀)) (sym (head-n h good)) ∙ part-length n i cells₀ few (kept-below i k) room
+    part-size i k = part-length n i cells₀ few (kept-below i k) room
 
-    at-size : (j i : ℕ) → keeper s i ≡ true → j ≤ steps (headPlan h) → length (at s a j i .cells) ≡ c
+    at-size : (j i : ℕ) → keeper s i ≡ true → j ≤ steps (h .plan) → length (at s a j i .cells) ≡ c
     unfolding setting
     at-size j i k l = cells-kept s a sound j i k l ∙ part-size i k
 
@@ -212,26 +207,25 @@ module _ (h : S.Head) (good : GoodHead h) (cells₀ : List ℕ) (room : cellsNee
       sizes = λ i k. part-length n i cells₀ few (kept-below i k) room;
     }
 
-    begin-is : (i : ℕ) → keeper s i ≡ true → acted (headPlan h) Begin fs [] i (unbegun i) ≡ at s a 0 i
+    begin-is : (i : ℕ) → keeper s i ≡ true → acted (h .plan) Begin i (unbegun i) ≡ at s a 0 i
     unfolding acted unbegun begun setting
-    begin-is i k =
-        ap (λ m. beginning (headPlan h) i (part m i cells₀) .board) (head-n h good) ∙ sym (at-start s a i (kept-below i k))
+    begin-is i k = sym (at-start s a i (kept-below i k))
 
     begun-holds : Holds (at s a 0) (played 0)
-    unfolding playSteps codeHead
+    unfolding playSteps
     begun-holds =
         holds-same _ (at s a 0) (played 0) begin-is
-        (acts-all unbegun start start-holds Begin fs [] (λ i k. ap (λ (b : Board). length (b .cells)) (begin-is i k) ∙ at-size 0 i k (omega arith)))
+        (acts-all unbegun start start-holds (acted (h .plan) Begin) (λ i k. ap (λ (b : Board). length (b .cells)) (begin-is i k) ∙ at-size 0 i k (omega arith)))
 
-    rounds-few : rounds (headPlan h) .0 ≤ 255
+    rounds-few : rounds (h .plan) .0 ≤ 255
     unfolding setting
-    rounds-few = omega (arith, rounds-most (headPlan h) (sound .accepted), few)
+    rounds-few = omega (arith, rounds-most (h .plan) (sound .accepted), few)
 
     -- In step j: what board i hears from the boards below q.
-    module _ (j : ℕ) (inside : j < steps (headPlan h)) where
+    module _ (j : ℕ) (inside : j < steps (h .plan)) where
       -- What is left of the frames.
       abbrev rest : List Frame
-      rest = framesLeft (headPlan h) (suc j) fs
+      rest = framesLeft (h .plan) (suc j) fs
 
       abbrev heard : ℕ → ℕ → Board
       heard q i = takeAll (told s a i j) (at s a j i) q
@@ -243,50 +237,51 @@ module _ (h : S.Head) (good : GoodHead h) (cells₀ : List ℕ) (room : cellsNee
       heard-size : (q i : ℕ) → q ≤ n → keeper s i ≡ true → length (heard q i .cells) ≡ c
       heard-size q i l k = mid q i l k .size ∙ at-size j i k (omega arith)
 
-      told-faulty : (q i : ℕ) → q < n → keeper s i ≡ true → member q (h .faulty) ≡ true
-          → acted (headPlan h) (HearFaulty q) rest [] i (heard q i) ≡ heard (suc q) i
-      unfolding acted takeAll hears setting sheetAdversary
-      told-faulty q i l k e =
+      faulty-heard : (q i : ℕ) (f : List ℕ) → q < n → keeper s i ≡ true → member q (h .faulty) ≡ true → hearFrom h rest q f i (heard q i) ≡ heard (suc q) i
+      unfolding hearFrom takeAll hears setting sheetAdversary
+      faulty-heard q i f l k e =
           let m = mid q i (omega arith) k in
-          rw e (ap (λ x. handIn q (decoded x) (heard q i))
-          (ap₂ (λ t u. findFrame t u q (heard q i .rec .board) rest) (m .run) (m .round) ∙ ap (λ b. findFrame (stepRun (headPlan h) (suc j)) (stepRound (headPlan h) (suc j)) q b rest) (m .board) ∙ sought-left (headPlan h) rounds-few j inside q i fs))
+          let there = ap₂ (λ t u. findFrame t u q (heard q i .rec .board) rest) (m .run) (m .round)
+          ∙ ap (λ b. findFrame (stepRun (h .plan) (suc j)) (stepRound (h .plan) (suc j)) q b rest) (m .board) ∙ sought-left (h .plan) rounds-few j inside q i fs in
+          ap (λ x. handIn q x (heard q i)) (told-faulty h rest q f (heard q i) e) ∙ rw e (ap (λ x. handIn q (decoded x) (heard q i)) there)
 
       -- The dealer's frame.
-      dealt-is : member (headPlan h .dealer) (h .faulty) ≡ false → dealing (headPlan h) (h .word) ≡ taken (encode (h .word ∷ []))
+      dealt-is : member (h .plan .dealer) (h .faulty) ≡ false → dealing (h .plan) (h .word) ≡ taken (encode (h .word ∷ []))
       unfolding dealing setting
       dealt-is e =
           let below = sound .word-below e in
-          taken-first (judged (headPlan h)) _ (sound .accepted) ∙ rw (lt-leb (headPlan h .span) (h .word) below) refl
+          taken-first (judged (h .plan)) _ (sound .accepted) ∙ rw (lt-leb (h .plan .span) (h .word) below) refl
 
-      told-dealer : (q i : ℕ) (f : List ℕ) → member q (h .faulty) ≡ false → q ≡ headPlan h .dealer → f ≡ dealtFrame (codeHead h)
-          → acted (headPlan h) (Hear q) rest f i (heard q i) ≡ heard (suc q) i
-      unfolding acted takeAll hears setting handIn dealtFrame codeHead isTaken receiving
-      told-dealer q i f e d ef =
+      dealer-heard : (q i : ℕ) (f : List ℕ) → member q (h .faulty) ≡ false → q ≡ h .plan .dealer → f ≡ dealtFrame h
+          → hearFrom h rest q f i (heard q i) ≡ heard (suc q) i
+      unfolding hearFrom takeAll hears setting handIn dealtFrame isTaken
+      dealer-heard q i f e d ef =
           let t = dealt-is (subst (λ x. member x (h .faulty) ≡ false) d e) in
           let f-is : f ≡ encode (h .word ∷ []) = ef ∙ ap (λ o. cond (isTaken o) (o .values) []) t in
-          rw (e, eq-eqb q (headPlan h .dealer) d) (ap (λ x. taking (heard q i) q x .board) (ap decode f-is ∙ decode-encode (h .word ∷ [])))
+          ap (λ x. handIn q x (heard q i)) (told-healthy h rest q f (heard q i) e)
+          ∙ rw (e, eq-eqb q (h .plan .dealer) d) (ap (λ x. taking (heard q i) q x .board) (ap decode f-is ∙ decode-encode (h .word ∷ [])))
 
       -- The frame of a board that keeps cells.
-      written : (q : ℕ) (b : Board) → Open b → q ≢ headPlan h .dealer
-          → (frameFrom (codeHead h) q b ≡ wireOf b) ⊎ (sending b (replicate frameRoom 0) .answer .number ≢ 0)
-      unfolding codeHead
+      written : (q : ℕ) (b : Board) → Open b → q ≢ h .plan .dealer
+          → (frameFrom h q b ≡ wireOf b) ⊎ (sending b (replicate frameRoom 0) .answer .number ≢ 0)
       written q b o ne =
           let r = b .rec in
           let out = replicate {A = ℕ} frameRoom 0 in
           cases (any (λ i. due (r .plan) (r .board) i (r .round)) (r .plan .n))
           (λ x. let t = sends b out o (omega (arith, length-replicate {A = ℕ} frameRoom 0)) x in
-          inl (sym (from-sender (codeHead h) q b (length (wireOf b)) out ne refl (sym t)) ∙ sending-gives b out (length (wireOf b)) t))
+          inl (sym (from-sender h q b (length (wireOf b)) out ne refl (sym t)) ∙ sending-gives b out (length (wireOf b)) t))
           (λ x. inr (λ z. let y : ⊥ = omega (arith, sym (silent b out o x) ∙ z) in y))
 
-      told-keeper : (q i : ℕ) (f : List ℕ) → keeper s q ≡ true → keeper s i ≡ true → f ≡ frameFrom (codeHead h) q (heard q q)
-          → acted (headPlan h) (Hear q) rest f i (heard q i) ≡ heard (suc q) i
-      unfolding acted takeAll hears setting handIn at receiving wireOf
-      told-keeper q i f kq ki ef =
+      keeper-heard : (q i : ℕ) (f : List ℕ) → keeper s q ≡ true → keeper s i ≡ true → f ≡ frameFrom h q (heard q q)
+          → hearFrom h rest q f i (heard q i) ≡ heard (suc q) i
+      unfolding hearFrom takeAll hears setting handIn at receiving wireOf
+      keeper-heard q i f kq ki ef =
           let (below, e, d) = keeper-facts s a sound q kq in
           let mq = mid q q (omega arith) kq in
           let mi = mid q i (omega arith) ki in
           let g = frameOf (at s a j q) in
-          rw (e, ne-eqb q (headPlan h .dealer) d)
+          ap (λ x. handIn q x (heard q i)) (told-healthy h rest q f (heard q i) e)
+          ∙ rw (e, ne-eqb q (h .plan .dealer) d)
           (⊎-elim
           (λ x. ap (λ y. taking (heard q i) q y .board) (ap decode (ef ∙ x) ∙ decode-encode (frameOf (heard q q)) ∙ mq .sends))
           (λ x. nothing q i f kq ki x ∙ sym (ap (λ y. taking (heard q i) q y .board) (sym (decode-encode g)) ∙ nothing q i (encode g) kq ki x))
@@ -302,59 +297,49 @@ module _ (h : S.Head) (good : GoodHead h) (cells₀ : List ℕ) (room : cellsNee
               (unsent (heard q q) (heard q i) (replicate frameRoom 0) y (mq .opened) (omega (arith, length-replicate {A = ℕ} frameRoom 0)) (mi .plan ∙ sym (mq .plan)) (mi .round ∙ sym (mq .round)) x)
 
       -- Every board has heard one board more.
-      sender-holds : (q : ℕ) (st : Stage) → q < n → Holds (heard q) st → Holds (heard (suc q)) (hearSender (codeHead h) rest q st)
-      sender-holds q st l x =
+      one-heard : (q i : ℕ) (st : Stage) → q < n → Holds (heard q) st → keeper s i ≡ true
+          → hearFrom h rest q (frameFrom h q (boardOn n st q)) i (heard q i) ≡ heard (suc q) i
+      one-heard q i st l x k =
+          let f = frameFrom h q (boardOn n st q) in
           cases (member q (h .faulty))
-          (λ e. subst (Holds (heard (suc q))) (faulty-sender q st e)
-          (holds-same _ (heard (suc q)) _ (λ i k. told-faulty q i l k e)
-          (acts-all (heard q) st x (HearFaulty q) rest [] (λ i k. ap (λ (b : Board). length (b .cells)) (told-faulty q i l k e) ∙ heard-size (suc q) i l k))))
-          (λ e. let f = frameFrom (codeHead h) q (boardOn n st q) in
-          let same : (i : ℕ) → keeper s i ≡ true → acted (headPlan h) (Hear q) rest f i (heard q i) ≡ heard (suc q) i = λ i k. told-healthy q i st l x e k in
-          subst (Holds (heard (suc q))) (healthy-sender q st e)
-          (holds-same _ (heard (suc q)) _ same
-          (acts-all (heard q) st x (Hear q) rest f (λ i k. ap (λ (b : Board). length (b .cells)) (same i k) ∙ heard-size (suc q) i l k))))
-        where
-          faulty-sender : (q : ℕ) (st : Stage) → member q (h .faulty) ≡ true → actAll (codeHead h) (HearFaulty q) rest [] n st ≡ hearSender (codeHead h) rest q st
-          faulty-sender q st e = unfold codeHead in heard-faulty (codeHead h) rest q st e
+          (λ e. faulty-heard q i f l k e)
+          (λ e. cases (eqb q (h .plan .dealer))
+          (λ d. let same = eqb-true q (h .plan .dealer) d in dealer-heard q i f e same (sym (from-dealer h q (boardOn n st q) same)))
+          (λ d. let kq : keeper s q ≡ true = unfold keeper setting in rw (lt-ltb q n l, e, d) refl in
+          keeper-heard q i f kq k (ap (frameFrom h q) (look (heard q) st x q kq))))
 
-          healthy-sender : (q : ℕ) (st : Stage) → member q (h .faulty) ≡ false
-              → actAll (codeHead h) (Hear q) rest (frameFrom (codeHead h) q (boardOn n st q)) n st ≡ hearSender (codeHead h) rest q st
-          healthy-sender q st e = unfold codeHead hearSender in rw e refl
+      sender-holds : (q : ℕ) (st : Stage) → q < n → Holds (heard q) st → Holds (heard (suc q)) (hearSender h rest q st)
+      unfolding hearSender
+      sender-holds q st l x =
+          let f = hearFrom h rest q (frameFrom h q (boardOn n st q)) in
+          holds-same _ (heard (suc q)) _ (λ i k. one-heard q i st l x k)
+          (acts-all (heard q) st x f (λ i k. ap (λ (b : Board). length (b .cells)) (one-heard q i st l x k) ∙ heard-size (suc q) i l k))
 
-          told-healthy : (q i : ℕ) (st : Stage) → q < n → Holds (heard q) st → member q (h .faulty) ≡ false → keeper s i ≡ true
-              → acted (headPlan h) (Hear q) rest (frameFrom (codeHead h) q (boardOn n st q)) i (heard q i) ≡ heard (suc q) i
-          told-healthy q i st l x e k =
-              cases (eqb q (headPlan h .dealer))
-              (λ d. let same = eqb-true q (headPlan h .dealer) d in
-              told-dealer q i (frameFrom (codeHead h) q (boardOn n st q)) e same (unfold codeHead in sym (from-dealer (codeHead h) q (boardOn n st q) same)))
-              (λ d. let kq : keeper s q ≡ true = unfold keeper setting in rw (lt-ltb q n l, e, d) refl in
-              told-keeper q i (frameFrom (codeHead h) q (boardOn n st q)) kq k (ap (frameFrom (codeHead h) q) (look (heard q) st x q kq)))
-
-      heard-holds : (st : Stage) → Holds (at s a j) st → (q : ℕ) → q ≤ n → Holds (heard q) (hearSenders (codeHead h) rest q st)
+      heard-holds : (st : Stage) → Holds (at s a j) st → (q : ℕ) → q ≤ n → Holds (heard q) (hearSenders h rest q st)
       unfolding hearSenders takeAll
       heard-holds st x zero l = x
-      heard-holds st x (suc q) l = sender-holds q (hearSenders (codeHead h) rest q st) l (heard-holds st x q (omega arith))
+      heard-holds st x (suc q) l = sender-holds q (hearSenders h rest q st) l (heard-holds st x q (omega arith))
 
-      closed-is : (i : ℕ) → keeper s i ≡ true → acted (headPlan h) Close rest [] i (heard n i) ≡ at s a (suc j) i
+      closed-is : (i : ℕ) → keeper s i ≡ true → acted (h .plan) Close i (heard n i) ≡ at s a (suc j) i
       unfolding acted setting
       closed-is i k = sym (at-next s a i j (kept-below i k))
 
       step-holds : Holds (at s a j) (played j) → Holds (at s a (suc j)) (played (suc j))
-      unfolding playSteps playStep codeHead
+      unfolding playSteps playStep
       step-holds x =
           holds-same _ (at s a (suc j)) (played (suc j)) closed-is
-          (acts-all (heard n) (hearSenders (codeHead h) rest n (played j)) (heard-holds (played j) x n (omega arith)) Close rest []
+          (acts-all (heard n) (hearSenders h rest n (played j)) (heard-holds (played j) x n (omega arith)) (acted (h .plan) Close)
           (λ i k. ap (λ (b : Board). length (b .cells)) (closed-is i k) ∙ at-size (suc j) i k inside))
 
-    played-holds : (j : ℕ) → j ≤ steps (headPlan h) → Holds (at s a j) (played j)
+    played-holds : (j : ℕ) → j ≤ steps (h .plan) → Holds (at s a j) (played j)
     played-holds zero l = begun-holds
     played-holds (suc j) l = step-holds j l (played-holds j (omega arith))
 
-    pub final-stage : Holds (at s a (steps (headPlan h))) (played (steps (headPlan h)))
-    final-stage = played-holds (steps (headPlan h)) (omega arith)
+    pub final-stage : Holds (at s a (steps (h .plan))) (played (steps (h .plan)))
+    final-stage = played-holds (steps (h .plan)) (omega arith)
 
     -- The cells at the end.
-    final-laid : (k : ℕ) → k ≤ n → laid (keeper s) c (λ i. at s a (steps (headPlan h)) i .cells) k cells₀ ≡ finalCells h (finalBoards h fs cells₀) k cells₀
+    final-laid : (k : ℕ) → k ≤ n → laid (keeper s) c (λ i. at s a (steps (h .plan)) i .cells) k cells₀ ≡ finalCells h (finalBoards h fs cells₀) k cells₀
     unfolding laid finalCells finalBoards keeper setting at replacePart replace
     final-laid zero l = refl
     final-laid (suc k) l =
@@ -362,16 +347,13 @@ module _ (h : S.Head) (good : GoodHead h) (cells₀ : List ℕ) (room : cellsNee
         let w = finalBoards h fs cells₀ in
         cases (member k (h .faulty))
         (λ e. rw (e, lt-ltb k n l) rest)
-        (λ e. cases (eqb k (h .dealer))
-        (λ d. let d′ : eqb k (headPlan h .dealer) ≡ true = ap (eqb k) (head-dealer h good) ∙ d in rw (e, d, d′, lt-ltb k n l) rest)
-        (λ d. let d′ : eqb k (headPlan h .dealer) ≡ false = ap (eqb k) (head-dealer h good) ∙ d in
-        rw (e, d, d′, lt-ltb k n l)
-        (ap (replace (k * c) c (boardAt w k .cells)) rest ∙ ap (λ m. replacePart m k (boardAt w k .cells) (finalCells h w k cells₀)) (head-n h good))))
+        (λ e. cases (eqb k (h .plan .dealer))
+        (λ d. rw (e, d, lt-ltb k n l) rest)
+        (λ d. rw (e, d, lt-ltb k n l) (ap (replace (k * c) c (boardAt w k .cells)) rest)))
 
-    pub final-cells : played (steps (headPlan h)) .cells ≡ finalCells h (finalBoards h fs cells₀) (h .n) cells₀
-    final-cells =
-        final-stage .cells ∙ final-laid n (omega arith) ∙ ap (λ k. finalCells h (finalBoards h fs cells₀) k cells₀) (head-n h good)
+    pub final-cells : played (steps (h .plan)) .cells ≡ finalCells h (finalBoards h fs cells₀) n cells₀
+    final-cells = final-stage .cells ∙ final-laid n (omega arith)
 
-    pub final-record : (i : ℕ) → keeper s i ≡ true → getD (played (steps (headPlan h)) .recs) i noRecord ≡ boardAt (finalBoards h fs cells₀) i .rec
+    pub final-record : (i : ℕ) → keeper s i ≡ true → getD (played (steps (h .plan)) .recs) i noRecord ≡ boardAt (finalBoards h fs cells₀) i .rec
     unfolding finalBoards at
     final-record i k = final-stage .recs i k

@@ -23,7 +23,7 @@ use Rattle.finding.specs.Frames.{keyOf, rising, skipFrames}
 use Rattle.finding.proofs.ByKey.{rising-skipped, find-skipped}
 use Rattle.sheet.specs.Steps.{stepKey, framesLeft, playStep, playSteps}
 use native.Mathlib.Numerals.{add-one}
-use Rattle.text.specs.declared.head.Head.{Head}
+use Rattle.protocol.specs.declared.head.Head.{Head}
 use Rattle.stage.specs.Stage.{Stage}
 
 -- One step more, with what is left of the frames.

@@ -1,7 +1,7 @@
 -- A whole sheet: what the code has in hand is what playing leaves.
 -- Assumes nothing.
 use Prim.Native.Nat.{ℕ, zero, suc, _+_, _≤_, _<_}
-use mathlib.Core.Path.{_≡_, refl, sym, ap, ap₂, subst, _∙_}
+use mathlib.Core.Path.{_≡_, refl, sym, ap, ap₂, _∙_}
 use mathlib.Core.Logic.{_≢_}
 use mathlib.Core.Bool.{true, cond}
 use mathlib.Core.List.{List, [], _∷_, _++_}
@@ -15,20 +15,20 @@ use Rattle.protocol.specs.Limits.{sheetMost, outputNeeded, cellsNeeded}
 use Rattle.protocol.specs.declared.records.Record.{Record}
 use Rattle.protocol.specs.Calls.{voidRecord}
 use Rattle.protocol.specs.Lists.{keeper}
-use Rattle.protocol.specs.Sheet.{headPlan, wrongAt, reading}
-use Rattle.protocol.specs.Sheet as S
+use Rattle.protocol.specs.declared.head.Head.{Head}
+use Rattle.protocol.specs.Sheet.{Frame, wrongAt, reading}
 use Rattle.protocol.specs.Playing.{setting, finalBoards, printBoards, Play, refusedPlay, playHead, playing}
-use Rattle.protocol.proofs.Sheets.{GoodHead, sheet-head, sheet-sound, head-n, head-dealer, parts-most}
-use Rattle.text.specs.declared.head.Head.{Head}
+use Rattle.protocol.proofs.Sheets.{GoodHead, few-boards, sheet-head, sheet-sound, parts-most}
 use Rattle.text.proofs.LineEnds.{stop}
-use Rattle.reader.specs.declared.judgement.Judged.{Judged}
+use Rattle.reader.specs.declared.reading.Judged.{Judged}
 use Rattle.reader.specs.Reading.{judgedSays}
 use Rattle.reader.proofs.Accepted.{sheet-rising}
 use Rattle.printer.specs.Printed.{boardLines}
 use Rattle.printer.proofs.BoardLines.{lines-played}
-use Rattle.stage.specs.Stage.{Stage, Ready, noRecord}
+use Rattle.stage.specs.Stage.{Stage, noRecord}
+use Rattle.hearing.specs.Hearing.{Ready}
 use Rattle.sheet.specs.Steps.{playSteps}
-use Rattle.sheet.proofs.Stages.{codeHead, final-stage, final-cells, final-record}
+use Rattle.sheet.proofs.Stages.{final-stage, final-cells, final-record}
 
 in-list : (l : List Record) (i : ℕ) (d e : Record) → i < length l → getD l i d ≡ getD l i e
 in-list [] i d e h = absurd (omega arith)
@@ -37,46 +37,40 @@ in-list (r ∷ rs) (suc i) d e h = in-list rs i d e (omega arith)
 
 -- A sheet that is accepted.
 module _ (text cells out : List ℕ) (ok : reading text .answer .number ≡ 0) (room : cellsNeeded ≤ length cells) (wide : outputNeeded ≤ length out) where
-  abbrev h : S.Head
+  abbrev h : Head
   h = reading text .head
 
-  abbrev fs : List S.Frame
+  abbrev fs : List Frame
   fs = reading text .frames
 
   abbrev good : GoodHead h
   good = sheet-head text ok
 
-  pub head-ready : Ready (codeHead h) cells text (stop text 0 + 1)
-  unfolding codeHead
+  pub head-ready : Ready h cells text (stop text 0 + 1)
   head-ready =
-      let few = subst (λ k. k ≤ 7) (sym (head-n h good)) (good .most-boards) in
-      record { few = few; room = omega (arith, parts-most (headPlan h .n) few); rising = sheet-rising text ok }
+      let few = few-boards h good in
+      record { roomy = record { few = few; room = omega (arith, parts-most (h .plan .n) few) }; rising = sheet-rising text ok }
 
   -- The stage at the end.
   abbrev pub ended : Stage
-  ended = playSteps (codeHead h) fs (steps (headPlan h)) (record { recs = replicate 7 voidRecord; cells = cells })
+  ended = playSteps h fs (steps (h .plan)) (record { recs = replicate 7 voidRecord; cells = cells })
 
-  lines-are : boardLines (h .n) (h .dealer) (h .faulty) (h .word) (ended .recs) out ≡ printBoards h (finalBoards h fs cells) 0 (h .n)
+  lines-are : boardLines h (ended .recs) out ≡ printBoards h (finalBoards h fs cells) 0 (h .plan .n)
   unfolding keeper setting
   lines-are =
-      lines-played h (finalBoards h fs cells) (ended .recs) out (good .most-boards) wide
+      lines-played h (finalBoards h fs cells) (ended .recs) out (few-boards h good) wide
       (λ i l f d.
-      let below : i < headPlan h .n = subst (λ k. i < k) (sym (head-n h good)) l in
-      let other : i ≢ headPlan h .dealer = λ e. d (e ∙ head-dealer h good) in
-      let kept : keeper (setting h cells) i ≡ true = rw (lt-ltb i (headPlan h .n) below, f, ne-eqb i (headPlan h .dealer) other) refl in
+      let kept : keeper (setting h cells) i ≡ true = rw (lt-ltb i (h .plan .n) l, f, ne-eqb i (h .plan .dealer) d) refl in
       let seven = final-stage h good cells room (sheet-sound text cells ok room) fs .seven in
-      in-list (ended .recs) i voidRecord noRecord (omega (arith, seven, good .most-boards))
+      in-list (ended .recs) i voidRecord noRecord (omega (arith, seven, few-boards h good))
       ∙ final-record h good cells room (sheet-sound text cells ok room) fs i kept)
 
-  -- What the code leaves, from the head and the frames that it has read.
-  pub sheet-played : (hd : Head) (st : Stage) (lines : List ℕ) → hd ≡ codeHead h → st ≡ ended
-      → lines ≡ boardLines (hd .plan .n) (hd .plan .dealer) (hd .faulty) (hd .word) (st .recs) out
+  -- What the code leaves, from the stage at the end and the lines that it has printed.
+  pub sheet-played : (st : Stage) (lines : List ℕ) → st ≡ ended → lines ≡ boardLines h (st .recs) out
       → _≡_ {A = Play} (record { answer = taken (length lines ∷ []); cells = st .cells; out = lines ++ drop (length lines) out }) (playHead h fs cells out)
-  unfolding playHead codeHead
-  sheet-played hd st lines eh es el =
-      let e : lines ≡ printBoards h (finalBoards h fs cells) 0 (h .n) =
-      el ∙ ap₂ (λ (x : Head) (y : Stage). boardLines (x .plan .n) (x .plan .dealer) (x .faulty) (x .word) (y .recs) out) eh es
-      ∙ ap₂ (λ a b. boardLines a b (h .faulty) (h .word) (ended .recs) out) (head-n h good) (head-dealer h good) ∙ lines-are in
+  unfolding playHead
+  sheet-played st lines es el =
+      let e : lines ≡ printBoards h (finalBoards h fs cells) 0 (h .plan .n) = el ∙ ap (λ (y : Stage). boardLines h (y .recs) out) es ∙ lines-are in
       let z : st .cells ≡ playHead h fs cells out .cells = ap (λ (y : Stage). y .cells) es ∙ final-cells h good cells room (sheet-sound text cells ok room) fs in
       ap₂ (λ (x : List ℕ) (y : List ℕ). record { answer = taken (length x ∷ []); cells = y; out = x ++ drop (length x) out }) e z
 

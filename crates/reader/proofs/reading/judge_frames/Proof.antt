@@ -1,9 +1,8 @@
 -- `judge_frames` meets its contract: 21 and 24. What is judged of the lines from `at` on, with the least key that rises, is what is judged of all.
 -- Assumes nothing.
-use Prim.Native.Nat.{_+_, _-_, _≤_, _<_}
+use Prim.Native.Nat.{_+_, _-_, _≤_}
 use mathlib.Core.Path.{_≡_, refl, sym, ap, _∙_}
 use native.Mathlib.Omega.{arith}
-use lib.Dec.{ltb}
 use lib.ListN.{length, getD, take, drop}
 use borrow.Author.Needs.{needs}
 use borrow.Author.Tests.{ne-eqb}
@@ -12,8 +11,7 @@ use Rattle.refusals.proofs.Outcomes.{refusal-number}
 use Rattle.protocol.specs.Sheet.{lines, wrongAt}
 use Rattle.text.proofs.LineEnds.{stop-ge, stop-le}
 use Rattle.finding.specs.Frames.{lineKey}
-use Rattle.frame_lines.specs.FrameLines.{judgeLine}
-use Rattle.reader.specs.Reading.{judgedSays, JudgedAs, judgeLines}
+use Rattle.reader.specs.Reading.{judgedSays, judgeLines}
 use Rattle.reader.proofs.Places.{at-end, at-wrong, at-good, at-ended, key-below}
 use Rattle.reader.proofs.reading.judge_frames.Statement.{statement}
 use Rattle.reader.proofs.reading.judge_frames.Tie as tie

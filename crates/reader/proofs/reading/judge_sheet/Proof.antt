@@ -8,7 +8,7 @@ use borrow.Author.Needs.{needs}
 use Rattle.refusals.specs.Outcome.{verdict}
 use Rattle.plan.specs.Calls.{judged}
 use Rattle.hex.proofs.Bytes.{all}
-use Rattle.protocol.specs.Sheet.{lines, headOf}
+use Rattle.protocol.specs.Sheet.{lines}
 use Rattle.protocol.proofs.Sheets.{head-good}
 use Rattle.reader.specs.Reading.{judgeLines}
 use Rattle.reader.proofs.WholeSheet.{sheet-begun, sheet-said, sheet-far, sheet-answer}

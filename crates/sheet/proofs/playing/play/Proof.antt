@@ -42,8 +42,8 @@ play-sheet-requires c κs =
     let short = wide .before in
     let a = short .before .before .before .before .args in
     let d = read .read-sheet in
-    let e = judged-accepted (d .result .judged) (a.text .now) (d .ensures .0) (ap verdict (sym (told .enum-told .given .1))) in
-    (e, roomy .if3 .left, wide .if2 .left, d .ensures .3, d .ensures .4)
+    let e = judged-accepted (d .result .judged) (a.text .now) (d .ensures .judges .says) (ap verdict (sym (told .enum-told .given .1))) in
+    (e, roomy .if3 .left, wide .if2 .left, d .ensures .gives e, d .ensures .begins)
 
 returns-4 : tie.Need-returns-4
 unfolding playedSays verdict wrongAt refusedPlay
@@ -56,7 +56,7 @@ returns-4 c =
     let a = short .before .before .before .before .args in
     let d = read .read-sheet in
     let why = told .verdict .given .0 .0 in
-    let o = judged-refused (d .result .judged) (a.text .now) (d .ensures .0) (refusal why) (ap verdict (sym (told .verdict .given .1))) (refusal-number why) in
+    let o = judged-refused (d .result .judged) (a.text .now) (d .ensures .judges .says) (refusal why) (ap verdict (sym (told .verdict .given .1))) (refusal-number why) in
     let e = sheet-refused (a.text .now) (a.cells .now) (a.out .now) (short .if1 .left) (wide .if2 .left) (roomy .if3 .left)
     (wrongAt (d .result .judged .line) (refusal why)) o (refusal-number why) in
     (ap (λ (p : Play). p .answer) e, ap (λ (p : Play). p .cells) e, ap (λ (p : Play). p .out) e)
@@ -73,7 +73,7 @@ returns-5 c =
     let a = short .before .before .before .before .args in
     let j = read .read-sheet in
     let d = played .play-sheet in
-    let ok = judged-accepted (j .result .judged) (a.text .now) (j .ensures .0) (ap verdict (sym (told .enum-told .given .1))) in
+    let ok = judged-accepted (j .result .judged) (a.text .now) (j .ensures .judges .says) (ap verdict (sym (told .enum-told .given .1))) in
     let e = sheet-accepted (a.text .now) (a.cells .now) (a.out .now) (short .if1 .left) (wide .if2 .left) (roomy .if3 .left) ok in
     (d .ensures .0 ∙ ap (λ (p : Play). p .answer) e, d .ensures .1 ∙ ap (λ (p : Play). p .cells) e, d .ensures .2 ∙ ap (λ (p : Play). p .out) e)
 

@@ -1,7 +1,7 @@
 -- `play_sheet` meets its contract.
 -- Assumes nothing.
 use Prim.Native.Nat.{_-_}
-use mathlib.Core.Path.{_≡_, refl, sym, ap, ap₂, subst, _∙_}
+use mathlib.Core.Path.{_≡_, sym, ap, ap₂, subst, _∙_}
 use mathlib.Core.List.{[], _∷_}
 use lib.ListN.{replicate}
 use Rattle.schedule.specs.Schedule.{steps}
@@ -10,27 +10,25 @@ use Rattle.protocol.specs.Calls.{voidRecord}
 use Rattle.protocol.specs.Sheet.{reading}
 use Rattle.protocol.specs.Playing.{Play}
 use Rattle.finding.specs.Frames.{framesFrom}
-use Rattle.reader.proofs.Accepted.{sheet-head-at, sheet-frames}
-use Rattle.stage.specs.Stage.{Stage, Ready}
+use Rattle.reader.proofs.Accepted.{sheet-frames}
+use Rattle.printer.specs.Printed.{boardLines}
+use Rattle.stage.specs.Stage.{Stage}
+use Rattle.hearing.specs.Hearing.{Ready}
 use Rattle.sheet.specs.Steps.{playSteps}
-use Rattle.sheet.proofs.Stages.{codeHead}
 use Rattle.sheet.proofs.Whole.{head-ready, sheet-played}
 use borrow.Author.Needs.{needs}
 use Rattle.sheet.proofs.playing.play_sheet.Statement.{statement}
 use Rattle.sheet.proofs.playing.play_sheet.Tie as tie
 
 play-rounds-requires : tie.Need-play-rounds-requires
-unfolding codeHead
 play-rounds-requires c κs =
     let s = c .before .before .before .before in
     let a = s .args in
-    let eh = s .pre .3 ∙ sheet-head-at (a.text .now) (s .pre .0) in
-    subst (λ x. Ready x (a.cells .now) (a.text .now) a.from) (sym eh)
-    (subst (λ k. Ready (codeHead (reading (a.text .now) .head)) (a.cells .now) (a.text .now) k) (sym (s .pre .4))
+    subst (λ x. Ready x (a.cells .now) (a.text .now) a.from) (sym (s .pre .3))
+    (subst (λ k. Ready (reading (a.text .now) .head) (a.cells .now) (a.text .now) k) (sym (s .pre .4))
     (head-ready (a.text .now) (a.cells .now) (a.out .now) (s .pre .0) (s .pre .1) (s .pre .2)))
 
 returns : tie.Need-returns
-unfolding codeHead
 returns c =
     let printed = c .before .before in
     let played = printed .before .before .before .before in
@@ -39,13 +37,13 @@ returns c =
     let a = s .args in
     let t = a.text .now in
     let d = printed .print-boards in
-    let eh = s .pre .3 ∙ sheet-head-at t (s .pre .0) in
+    let eh = s .pre .3 in
     let ef = ap (framesFrom t) (s .pre .4) ∙ sym (sheet-frames t (s .pre .0)) in
     let start : Stage = record { recs = replicate 7 voidRecord; cells = a.cells .now } in
     let st : Stage = record { recs = g .result; cells = g .last .1 .1 .1 .0 } in
-    let es : st ≡ playSteps (codeHead (reading t .head)) (reading t .frames) (steps (codeHead (reading t .head) .plan)) start =
+    let es : st ≡ playSteps (reading t .head) (reading t .frames) (steps (reading t .head .plan)) start =
     ap₂ (λ x y. record { recs = x; cells = y }) (g .ensures .0) (g .ensures .1) ∙ ap₂ (λ x y. playSteps x y (steps (x .plan)) start) eh ef in
-    let e = sheet-played t (a.cells .now) (a.out .now) (s .pre .0) (s .pre .1) (s .pre .2) a.head st _ eh es refl in
+    let e = sheet-played t (a.cells .now) (a.out .now) (s .pre .0) (s .pre .1) (s .pre .2) st _ es (ap (λ x. boardLines x (st .recs) (a.out .now)) eh) in
     (ap (λ k. taken (k ∷ [])) (d .ensures .0) ∙ ap (λ (p : Play). p .answer) e, ap (λ (p : Play). p .cells) e, d .ensures .1 ∙ ap (λ (p : Play). p .out) e)
 
 pub play-sheet-spec : {M : Type 1} → statement M

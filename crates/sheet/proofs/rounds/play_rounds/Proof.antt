@@ -2,7 +2,6 @@
 -- Assumes nothing.
 use Prim.Native.Nat.{_-_, _≤_}
 use mathlib.Core.Path.{_≡_, refl, ap, ap₂, _∙_}
-use mathlib.Core.List.{[]}
 use native.Mathlib.Omega.{arith}
 use lib.ListN.{length, replicate}
 use borrow.Author.Needs.{needs}
@@ -24,35 +23,48 @@ abbrev μ-loop : tie.MeasureT-loop
 μ-loop head text from cells₀ plan steps all₀ at₀ j₀ cells all at j = steps - j
 
 act-all-requires : tie.Need-act-all-requires Inv-loop μ-loop
-act-all-requires c κs = c .before .before .before .before .before .before .before .pre
+act-all-requires c κs =
+    let planned = c .before .before .before in
+    let start = planned .before .before .before in
+    start .pre .roomy
 
 loop-holds : tie.Need-loop-holds Inv-loop μ-loop
 unfolding framesLeft
 loop-holds c = (search needs, λ t e. e, refl, refl)
 
 skip-to-step-requires : tie.Need-skip-to-step-requires Inv-loop μ-loop
-skip-to-step-requires c κs = omega (arith, c .before .before .before .before .before .before .before .before .steps .ensures)
+skip-to-step-requires c κs =
+    let begun = c .before .before .before .before in
+    let counted = begun .before .before .before in
+    omega (arith, counted .steps .ensures)
 
 play-round-requires : tie.Need-play-round-requires Inv-loop μ-loop
 play-round-requires c κs =
-    let s = c .before .before .before .before .before .before .before .before .before .before .before .before .before .before in
-    let a = s .args in
-    let l = c .before .before .before .loop in
+    let turned = c .before .before .before in
+    let begun = turned .before .before .before in
+    let planned = begun .before .before .before .before in
+    let start = planned .before .before .before in
+    let a = start .args in
+    let l = turned .loop in
     let fs = framesFrom (a.text .now) a.from in
-    let k = c .before .before .before .before .before .before .act-all .kept .1 .1 .1 .1 .1 .1 .0 in
+    let kept = begun .act-all .kept .1 .1 .1 .0 in
     let rest = c .before .skip-to-step .ensures ∙ ap (skipFrames (stepKey (a.head .plan) l.j)) (l .inv .3) in
     record {
-      few = s .pre .few;
-      room = omega (arith, s .pre .room, l .inv .2, k);
-      rising = ap (rising 0) rest ∙ rising-skipped (stepKey (a.head .plan) l.j) (framesLeft (a.head .plan) l.j fs) (left-rising (a.head .plan) l.j fs (s .pre .rising));
+      roomy = record { few = start .pre .roomy .few; room = omega (arith, start .pre .roomy .room, l .inv .2, kept) };
+      rising = ap (rising 0) rest ∙ rising-skipped (stepKey (a.head .plan) l.j) (framesLeft (a.head .plan) l.j fs) (left-rising (a.head .plan) l.j fs (start .pre .rising));
     }
 
 loop-again : tie.Need-loop-again Inv-loop μ-loop
 loop-again c =
-    let a = c .before .before .before .before .before .before .before .before .before .before .before .before .before .before .before .before .before .args in
-    let l = c .before .before .before .before .before .before .loop in
-    let d = c .before .before .play-round in
-    let at = c .before .before .before .before .skip-to-step in
+    let played = c .before .before in
+    let skipped = played .before .before in
+    let turned = skipped .before .before in
+    let begun = turned .before .before .before in
+    let planned = begun .before .before .before .before in
+    let a = planned .before .before .before .args in
+    let l = turned .loop in
+    let d = played .play-round in
+    let at = skipped .skip-to-step in
     let fs = framesFrom (a.text .now) a.from in
     let rest = at .ensures ∙ ap (skipFrames (stepKey (a.head .plan) l.j)) (l .inv .3) in (
       omega arith,
@@ -63,21 +75,27 @@ loop-again c =
     )
 
 same-length : tie.Need-same-length Inv-loop μ-loop
-same-length c = c .before .loop .inv .2 ∙ c .before .before .before .before .act-all .kept .1 .1 .1 .1 .1 .1 .0
+same-length c =
+    let turned = c .before in
+    let begun = turned .before .before .before in
+    turned .loop .inv .2 ∙ begun .act-all .kept .1 .1 .1 .0
 
 returns : tie.Need-returns Inv-loop μ-loop
 unfolding playSteps
 returns c =
-    let a = c .before .before .before .before .before .before .before .before .before .before .before .before .args in
-    let l = c .before .loop in
-    let d = c .before .before .before .before .act-all in
-    let v = c .before .before .before .before .before .before .void-records in
-    let z = c .before .before .before .before .before .before .before .before .steps in
+    let turned = c .before in
+    let begun = turned .before .before .before in
+    let voided = begun .before .before in
+    let counted = voided .before in
+    let a = counted .before .before .before .before .args in
+    let l = turned .loop in
+    let d = begun .act-all in
     let fs = framesFrom (a.text .now) a.from in
     let t : Stage = record { recs = replicate 7 voidRecord; cells = a.cells .now } in
-    let start = ap₂ (λ x y. record { recs = x; cells = y }) (d .ensures .0) (d .ensures .1)
-    ∙ ap (λ x. actAll a.head Begin fs [] (a.head .plan .n) (record { recs = x; cells = a.cells .now })) (v .ensures) in
-    let e = l .inv .1 t start ∙ ap (λ m. playSteps a.head fs m t) (let h : l.j ≡ z .result = omega arith in h ∙ z .ensures) in
+    let first = ap₂ (λ x y. record { recs = x; cells = y }) (d .ensures .0) (d .ensures .1)
+    ∙ ap (λ x. actAll a.head Begin (a.head .plan .n) (record { recs = x; cells = a.cells .now })) (voided .void-records .ensures) in
+    let all : l.j ≡ counted .steps .result = omega arith in
+    let e = l .inv .1 t first ∙ ap (λ m. playSteps a.head fs m t) (all ∙ counted .steps .ensures) in
     (ap (λ x. x .recs) e, ap (λ x. x .cells) e)
 
 pub play-rounds-spec : {M : Type 1} → statement M
@@ -87,9 +105,6 @@ play-rounds-spec =
     Inv-loop
     μ-loop
     (λ c κs. search needs)
-    (λ c. search needs)
-    (λ c. search needs)
-    (λ c. search needs)
     (λ c κs. search needs)
     act-all-requires
     loop-holds
