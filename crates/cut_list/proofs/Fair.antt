@@ -32,10 +32,10 @@ use Rattle.protocol.specs.Records.{runEnded}
 use Rattle.protocol.specs.Rounds.{fill, counted, receive, fillMissing, copyOwn, gather, rootOnly, nextRound, convert, close}
 use Rattle.protocol.specs.Calls.{isTaken, judgeBoard, judgeCells, goodMarks, goodDecision, goodRecord, judgeRecord, judgeOpen, freshRecord, voidRecord, judgeBeginning, beginning, dealing, judgeReceiving, taking, receiving, frameOf, wireOf, judgeSending, sending, closedValues, closing, deciding}
 use Rattle.protocol.specs.Cases.{sameList}
-use Rattle.protocol.specs.Session.{begun}
-use Rattle.protocol.specs.Lists.{receives, closes, answers, after, caller, keeper, leaves, state, step, Sound, Fair, EndsRun, root, list, listAfter, onEvery, Agreement}
-use Rattle.protocol.proofs.FairCheck.{everywhere, somewhere, alike, writes, hands, truthful, lacks, fairCall, fairCheck, carriesCall, carriesCheck, checked-fair}
-use Rattle.protocol.proofs.Demand.{demand3}
+use Rattle.protocol.specs.Session.{begun, keeper, Sound}
+use Rattle.agreement.specs.Lists.{receives, closes, answers, after, caller, leaves, state, step, Fair, EndsRun, root, list, listAfter, onEvery, Agreement}
+use Rattle.agreement.proofs.FairCheck.{everywhere, somewhere, alike, writes, hands, truthful, lacks, fairCall, fairCheck, carriesCall, carriesCheck, checked-fair}
+use Rattle.agreement.proofs.Demand.{demand3}
 use Rattle.cut_list.specs.List.{cutSetting, cutCalls, takeCalls, cutBefore}
 
 -- What is computed from the definitions.

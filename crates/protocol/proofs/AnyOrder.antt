@@ -33,7 +33,7 @@ use Rattle.protocol.proofs.Nodes.{inner-inv, node-label, node-length, s
 use Rattle.protocol.proofs.Fill.{IsLabel, Children}
 use Rattle.protocol.proofs.Judgement.{Good, good-dealer, open-taken}
 use Rattle.protocol.proofs.Listing.{insert-below}
-use Rattle.protocol.proofs.Reached.{due-sender}
+use Rattle.protocol.proofs.Taken.{due-sender}
 use Rattle.protocol.specs.Records.{withTaken}
 use Rattle.protocol.proofs.Hearing.{isGiven, accepts, marks, content, heardCells, marks-at, marks-below, heard, heard-open, heard-outside, sent-label}
 

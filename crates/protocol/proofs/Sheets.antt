@@ -26,7 +26,7 @@ use Rattle.tree.proofs.Below.{most}
 use Rattle.protocol.specs.Limits.{cellsNeeded}
 use Rattle.protocol.specs.Sheet.{Line, lineBytes, Head, headOf, headPlan, judgeHead, Frame, frameLine, goodFrame, Reading, wrongAt, refusedReading, addFrame, readFrames, readHead, readLines, lines, reading, headSettings}
 use Rattle.protocol.specs.Playing.{part, setting}
-use Rattle.protocol.specs.Lists.{keeper, Sound}
+use Rattle.protocol.specs.Session.{keeper, Sound}
 
 -- What an accepted head meets.
 pub record GoodHead (h : Head) : Type 0 where

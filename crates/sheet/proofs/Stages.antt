@@ -24,8 +24,7 @@ use Rattle.protocol.specs.Limits.{cellsNeeded, frameRoom}
 use Rattle.protocol.specs.Nodes.{due}
 use Rattle.protocol.specs.Rounds.{boardWith, Board}
 use Rattle.protocol.specs.Calls.{isTaken, voidRecord, judgeOpen, judgeSending, dealing, taking, receiving, sending, frameOf, wireOf, beginning}
-use Rattle.protocol.specs.Session.{Adversary, Setting, boardAt, begun, hears, handIn, session, at, takeAll}
-use Rattle.protocol.specs.Lists.{keeper, Sound}
+use Rattle.protocol.specs.Session.{Adversary, Setting, boardAt, begun, hears, handIn, session, at, takeAll, keeper, Sound}
 use Rattle.protocol.specs.Sheet.{Frame, headPlan}
 use Rattle.protocol.specs.Sheet as S
 use Rattle.protocol.specs.Playing.{findFrame, decoded, sheetAdversary, part, replacePart, setting, finalCells, finalBoards}
@@ -33,7 +32,7 @@ use Rattle.protocol.proofs.Synchronous.{at-start, at-next, told, keeper-facts}
 use Rattle.protocol.proofs.PartHeard.{MidStep, part-heard, cells-kept}
 use Rattle.protocol.proofs.Judgement.{Open, open-taken}
 use Rattle.protocol.proofs.Few.{sends, unsent}
-use Rattle.protocol.proofs.Fairness.{sending-gives}
+use Rattle.protocol.proofs.Taken.{sending-gives}
 use Rattle.protocol.proofs.Sheets.{GoodHead, head-n, head-dealer, parts-most, part-length}
 use Rattle.text.specs.declared.head.Head.{Head}
 use Rattle.stage.specs.declared.acting.Act.{Act}

@@ -11,8 +11,8 @@ use lib.Dec.{eqb}
 use borrow.Author.Tests.{eq-eqb, ne-eqb}
 use Rattle.codec.specs.Codec.{decode}
 use Rattle.sets.proofs.Tests.{cases, clash, is-false}
-use Rattle.protocol.specs.Lists.{Call, receives, sends, closes, decides, caller, answers, World, step, after, Stands, isClosing, closings}
-use Rattle.protocol.proofs.Prefixes.{takes, takes-own, ends, ends-not, ends-closes}
+use Rattle.agreement.specs.Lists.{Call, receives, sends, closes, decides, caller, answers, World, step, after, Stands, isClosing, closings}
+use Rattle.agreement.proofs.Prefixes.{takes, takes-own, ends, ends-not, ends-closes}
 
 -- The call hands in a frame from board q, and this frame.
 unfoldable pub isFrom : ℕ → Call → Bool

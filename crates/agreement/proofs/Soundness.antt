@@ -14,37 +14,35 @@ use Rattle.sets.specs.Sets.{member}
 use Rattle.sets.proofs.Tests.{cases, clash, is-false}
 use Rattle.sets.proofs.Member.{member-empty}
 use Rattle.plan.specs.declared.plan.Plan.{Plan}
+use Rattle.plan.specs.Values.{default}
 use Rattle.schedule.specs.declared.rounds.Round.{Round}
 use Rattle.schedule.specs.Schedule.{rounds, steps, stepRun, stepRound}
+use Rattle.schedule.proofs.Levels.{rounds-pos}
 use Rattle.tree.specs.Labels.{Label, occurs, last}
 use Rattle.tree.specs.Places.{cellCount, place, levelStart, levelSize, rank}
 use Rattle.tree.specs.Cells.{cellAt}
 use Rattle.tree.proofs.Labels.{label-dealer, root-has}
 use Rattle.theory.specs.Tree as T
-use Rattle.protocol.specs.declared.records.Record.{Record}
-use Rattle.plan.specs.Values.{default}
-use Rattle.protocol.specs.Nodes.{read, internal, inner, sent, due}
 use Rattle.theory.specs.Runs.{Flow}
 use Rattle.theory.specs.Tree.{root, child}
 use Rattle.theory.proofs.Uniform.{uniform, healthy-node}
-use Rattle.protocol.proofs.Converting.{Minds, levels-sound}
+use Rattle.protocol.specs.declared.records.Record.{Record}
+use Rattle.protocol.specs.Nodes.{read, internal, inner, sent, due}
 use Rattle.protocol.specs.Detection.{Scan, byResolving, resolveRoot, detectLevels}
 use Rattle.protocol.specs.Records.{runEnded}
 use Rattle.protocol.specs.Rounds.{rootOnly, nextRound, convert, Board, gather}
-use Rattle.protocol.specs.Session.{Adversary, Setting, at, takeAll}
+use Rattle.protocol.specs.Session.{Adversary, Setting, at, takeAll, keeper, Sound}
 use Rattle.protocol.specs.Calls.{freshRecord}
-use Rattle.schedule.proofs.Levels.{rounds-pos}
-use Rattle.protocol.specs.Lists.{keeper, Sound}
 use Rattle.protocol.proofs.Nodes.{inner-same, inner-inv, inner-has, node-label, node-length, node-root, node-inv, node-has, no-node}
 use Rattle.protocol.proofs.Fill.{IsLabel}
 use Rattle.protocol.proofs.Judgement.{plan-facts}
 use Rattle.protocol.proofs.Bounds.{read-small, root-small}
-use Rattle.protocol.proofs.Instance.{inst, mem-node, node-mem, node-level, node-size, resolve-inst}
-use Rattle.protocol.proofs.Listing.{listOf}
-use Rattle.protocol.proofs.Gathering.{scan-cell, scan-sound}
 use Rattle.protocol.proofs.Hearing.{stored, filled, filled-length, delivered, value-same}
 use Rattle.protocol.proofs.Synchronous.{at-start, begun-shape, told, keeper-facts, standing, position, number, heard-all, ready, after-step, close-next, close-last, next-run, more-runs}
-use Rattle.protocol.proofs.Delivery.{good, healthy, healthy-keeper, told-word, st, rec, rec-good, stored-cells, scanned, stored-healthy, scanned-other}
+use Rattle.agreement.proofs.Converting.{Minds, levels-sound}
+use Rattle.agreement.proofs.Instance.{inst, mem-node, node-mem, node-level, node-size, resolve-inst, listOf}
+use Rattle.agreement.proofs.Gathering.{scan-cell, scan-sound}
+use Rattle.agreement.proofs.Delivery.{good, healthy, healthy-keeper, told-word, st, rec, rec-good, stored-cells, scanned, stored-healthy, scanned-other}
 
 module _ (s : Setting) (a : Adversary) (sound : Sound s) where
   abbrev plan : Plan

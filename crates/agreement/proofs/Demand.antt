@@ -15,30 +15,31 @@ use Rattle.sets.proofs.Tests.{cases, clash, and-l, and-r, and-true, not-t, true
 use Rattle.sets.proofs.Member.{within-member, member-within}
 use Rattle.sets.proofs.Search.{any-same, any-true, any-of}
 use Rattle.sets.proofs.Count.{count-same, count-mono}
+use Rattle.refusals.specs.Outcome.{Outcome, taken, refused, andThen}
+use Rattle.refusals.proofs.Outcomes.{both-taken, taken-first}
 use Rattle.plan.specs.declared.plan.Plan.{Plan}
+use Rattle.plan.specs.Calls.{judged}
 use Rattle.schedule.specs.declared.rounds.Run.{Run}
 use Rattle.schedule.specs.declared.rounds.Round.{Round}
 use Rattle.schedule.specs.Schedule.{depthOf, isCut, rounds, runs, steps, stepRun}
 use Rattle.schedule.specs.Schedule as S
-use Rattle.refusals.specs.Outcome.{Outcome, taken, refused, andThen}
-use Rattle.plan.specs.Calls.{judged}
-use Rattle.refusals.proofs.Outcomes.{both-taken, taken-first}
 use Rattle.schedule.proofs.Steps.{step-has, step-of-round}
 use Rattle.tree.specs.Cells.{blank}
 use Rattle.protocol.specs.declared.records.Record.{Record}
 use Rattle.protocol.specs.Rounds.{Board}
 use Rattle.protocol.specs.Calls.{judgeOpen, judgeRecord, judgeBoard, judgeBeginning, closing, deciding}
-use Rattle.protocol.specs.Session.{Setting, begun, at}
-use Rattle.protocol.specs.Lists.{Call, closes, decides, caller, leaves, answers, state, after, keeper, Prefix, Stands, Sound, Fair, closings, PastLast, EndsRun, root, list, onEvery, listAfter, Agreement, Demand3}
-use Rattle.protocol.specs.Claims.{ended, rootAfter, listEnded}
+use Rattle.protocol.specs.Session.{Setting, begun, at, keeper, Sound}
 use Rattle.protocol.proofs.Judgement.{open-facts, open-taken, record-taken, board-taken, cells-taken, Good}
-use Rattle.protocol.proofs.Reached.{reached-begun, reached-after}
+use Rattle.protocol.proofs.Reached.{reached-begun}
 use Rattle.protocol.proofs.Synchronous.{keeper-facts}
-use Rattle.protocol.proofs.Runs.{lists-grow}
-use Rattle.protocol.proofs.Session.{synchronous}
-use Rattle.protocol.proofs.Prefixes.{state-next, step-own, prefix-refl, prefix-trans, stands-prefix, stands-next, closings-mono}
-use Rattle.protocol.proofs.Inbox.{took}
-use Rattle.protocol.proofs.Fairness.{adversary, base, Where, hearing-open, run-at, round-at, decided-end, more, open-closing, closing-open, closed-is, whereabouts}
+use Rattle.protocol.proofs.Taken.{open-closing, closing-open}
+use Rattle.agreement.specs.Lists.{Call, closes, decides, caller, leaves, answers, state, Prefix, Stands, Fair, closings, PastLast, EndsRun, root, list, onEvery, listAfter, Agreement, Demand3}
+use Rattle.agreement.specs.Claims.{ended, rootAfter, listEnded}
+use Rattle.agreement.proofs.Prefixes.{reached-after, state-next, step-own, prefix-refl, prefix-trans, stands-prefix, stands-next, closings-mono}
+use Rattle.agreement.proofs.Runs.{lists-grow}
+use Rattle.agreement.proofs.Session.{synchronous}
+use Rattle.agreement.proofs.Inbox.{took}
+use Rattle.agreement.proofs.Fairness.{adversary, base, Where, hearing-open, run-at, round-at, decided-end, more, closed-is, whereabouts}
 
 -- What a decision that was read says.
 deciding-facts : (r : Record) (v : ℕ) → deciding r ≡ taken (v ∷ []) → (r .decided ≡ true) × (r .decision ≡ v)
@@ -152,7 +153,7 @@ module _ (s : Setting) (calls : List Call) (sound : Sound s) (fair : Fair s call
 
     low : j < steps plan
     unfolding answers caller
-    low = more s calls sound fair before (closes i) i ki w (open-facts (state s before i) (closing-open s calls sound fair (state s before i) (run-ends .taken)))
+    low = more s calls sound fair before (closes i) i ki w (open-facts (state s before i) (closing-open (state s before i) (run-ends .taken)))
 
     run-is : stepRun plan (suc j) ≡ record { 0 = t }
     run-is = ap (λ x. record { 0 = x }) (ap (λ (u : Run). u .0) (sym (run-at s calls sound fair before i w j refl low)) ∙ run-ends .run)
@@ -228,7 +229,7 @@ module _ (s : Setting) (calls : List Call) (sound : Sound s) (fair : Fair s call
       λ z. ap (λ (b : Board). b .rec .decided) (here calls (prefix-refl calls) i ki .done z) ∙ decided-end s calls sound fair i ki,
     );
     until = λ i before st l.
-        open-closing s calls sound fair (state s before i) (still-open before (stands-prefix (closes i) before calls st) i (fair .callers (closes i) before st) l);
+        open-closing (state s before i) (still-open before (stands-prefix (closes i) before calls st) i (fair .callers (closes i) before st) l);
     readable = λ i ki d. readable-there calls (prefix-refl calls) i ki d;
     same = λ i k ki kk z z′.
         past-decision calls (prefix-refl calls) i ki z

@@ -8,57 +8,35 @@ use mathlib.Core.List.{List, [], _∷_, _++_}
 use mathlib.Core.Option.{Option, some, none, Option·getD}
 use native.Mathlib.Omega.{arith}
 use lib.Dec.{eqb, ltb, leb}
-use lib.ListN.{length, getD, take, drop}
-use lib.Seq.{take-at}
 use borrow.Author.Tests.{eqb-true, eqb-false, eq-eqb, ne-eqb, lt-ltb, ltb-true, ltb-false, lt-leb}
 use Rattle.codec.specs.Codec.{encode, decode}
 use Rattle.codec.proofs.Codec.{decode-encode}
-use Rattle.sets.specs.Search.{any}
 use Rattle.sets.specs.Sets.{member}
 use Rattle.sets.proofs.Tests.{cases, clash, and-l, and-true, true-not}
+use Rattle.refusals.specs.Outcome.{Outcome, taken, refused, andThen}
+use Rattle.refusals.proofs.Outcomes.{taken-first}
 use Rattle.plan.specs.declared.plan.Plan.{Plan}
+use Rattle.plan.specs.Calls.{judged}
 use Rattle.schedule.specs.declared.rounds.Run.{Run}
 use Rattle.schedule.specs.declared.rounds.Round.{Round}
 use Rattle.schedule.specs.Schedule.{steps, stepRun, stepRound}
 use Rattle.schedule.specs.Schedule as S
-use Rattle.refusals.specs.Outcome.{Outcome, taken, refused, andThen}
-use Rattle.plan.specs.Calls.{judged}
-use Rattle.refusals.proofs.Outcomes.{passed, both-taken, taken-first}
 use Rattle.schedule.proofs.Steps.{step-of-round}
 use Rattle.protocol.specs.declared.records.Record.{Record}
-use Rattle.protocol.specs.Nodes.{sent, due, frame}
+use Rattle.protocol.specs.Nodes.{sent, due}
 use Rattle.protocol.specs.Rounds.{boardWith, Board, counted, receive}
-use Rattle.protocol.specs.Calls.{isTaken, judgeOpen, judgeReceiving, taking, receiving, frameOf, wireOf, judgeSending, sending, closing, dealing}
-use Rattle.protocol.specs.Session.{Adversary, Setting, begun, hears, session, at}
-use Rattle.protocol.specs.Lists.{Call, isClosing, receives, sends, closes, decides, caller, leaves, answers, step, state, after, keeper, Prefix, Stands, Taken, Sound, Written, Fair, closings}
+use Rattle.protocol.specs.Calls.{isTaken, judgeOpen, judgeReceiving, taking, receiving, frameOf, wireOf, closing, dealing}
+use Rattle.protocol.specs.Session.{Adversary, Setting, begun, hears, at, keeper, Sound}
 use Rattle.protocol.proofs.Judgement.{is-taken, taken-is, Good, Open, open-facts, open-taken}
-use Rattle.protocol.proofs.Reached.{receiving-facts, taking-taken, taking-refused, closing-refused}
+use Rattle.protocol.proofs.Taken.{receiving-facts, taking-taken, taking-refused, closing-refused, sending-gives, open-closing, closing-open, sending-open}
 use Rattle.protocol.specs.Records.{withTaken}
 use Rattle.protocol.proofs.Hearing.{marks, heardCells, accepts, content, isGiven, heard-open, hear-shape}
 use Rattle.protocol.proofs.Synchronous.{canon, Standing, standing, keeper-facts, at-start, at-next, told}
-use Rattle.protocol.proofs.Session.{synchronous}
-use Rattle.protocol.proofs.Prefixes.{state-next, step-own, step-other, takes-other, takes-refused, ends, ends-not, ends-untaken, closings-same, closings-taken, closings-mono, prefix-refl, prefix-trans, stands-prefix, along}
-use Rattle.protocol.proofs.Inbox.{took, isFrom, enters-not, enters-from, enters-untaken, took-skip, took-at, took-here, took-closed, took-new}
 use Rattle.protocol.proofs.AnyOrder.{update, update-here, update-other, heard-more, heard-taken, heard-same, heard-none, heard-frame}
-
--- A writing that is taken gives the frame of the board.
-pub sending-open : (b : Board) (out : List ℕ) (k : ℕ) → sending b out .answer ≡ taken (k ∷ []) → Open b
-unfolding sending judgeSending
-sending-open b out k e = open-facts b (both-taken (judgeOpen b) _ (ap (λ o. o .number) e) .0)
-
-pub sending-gives : (b : Board) (out : List ℕ) (k : ℕ) → sending b out .answer ≡ taken (k ∷ []) → take k (sending b out .out) ≡ wireOf b
-unfolding sending judgeSending isTaken
-sending-gives b out k e =
-    let r = b .rec in
-    let f = wireOf b in
-    let some-due = any (λ i. due (r .plan) (r .board) i (r .round)) (r .plan .n) in
-    let (e1, e2) = both-taken (judgeOpen b) _ (ap (λ o. o .number) e) in
-    let on : some-due ≡ true = cases some-due (λ x. x) (λ x. absurd (let z : 16 ≡ 0 = rw x at e2 in let y : ⊥ = omega arith in y)) in
-    let fits : ltb (length out) (length f) ≡ false = passed (ltb (length out) (length f)) (refused 17) _ (omega arith) (rw on at e2) .0 in
-    let answer : judgeSending b out ≡ taken (length f ∷ []) = taken-first (judgeOpen b) _ e1 ∙ rw (on, fits) refl in
-    let size : length f ≡ k = ap (λ (o : Outcome). getD (o .values) 0 0) (sym answer ∙ e) in
-    let written : sending b out .out ≡ f ++ drop (length f) out = rw answer refl in
-    ap₂ take (sym size) written ∙ take-at f (drop (length f) out) (length f) refl
+use Rattle.agreement.specs.Lists.{Call, isClosing, receives, sends, closes, decides, caller, leaves, answers, state, after, Prefix, Stands, Taken, Written, Fair, closings}
+use Rattle.agreement.proofs.Session.{synchronous}
+use Rattle.agreement.proofs.Prefixes.{state-next, step-own, step-other, takes-other, takes-refused, ends-not, ends-untaken, closings-same, closings-taken, closings-mono, prefix-refl, prefix-trans, stands-prefix, along}
+use Rattle.agreement.proofs.Inbox.{took, isFrom, enters-not, enters-from, enters-untaken, took-skip, took-at, took-here, took-closed, took-new}
 
 module _ (s : Setting) (calls : List Call) (sound : Sound s) (fair : Fair s calls) where
   abbrev plan : Plan
@@ -325,15 +303,6 @@ module _ (s : Setting) (calls : List Call) (sound : Sound s) (fair : Fair s call
           update-other msg q (decode f) y ne
           ∙ sym (took-skip (begun s) i j y before (receives k q f) z (enters-from (after (begun s) before) i y k q f (λ u. ne (sym u)))
           (ends-not (after (begun s) before) i (receives k q f) refl)))
-
-  -- A closing is taken exactly if the board is open.
-  pub closing-open : (b : Board) → closing b .answer .number ≡ 0 → judgeOpen b .number ≡ 0
-  unfolding closing
-  closing-open b e = both-taken (judgeOpen b) _ e .0
-
-  pub open-closing : (b : Board) → judgeOpen b .number ≡ 0 → closing b .answer .number ≡ 0
-  unfolding closing
-  open-closing b e = ap (λ o. o .number) (taken-first (judgeOpen b) _ e)
 
   -- A closing.
   module _ (before : List Call) (i : ℕ) (ki : keeper s i ≡ true) (stands : Stands (closes i) before calls)

@@ -9,9 +9,13 @@ use native.Mathlib.Omega.{arith}
 use lib.Dec.{eqb}
 use lib.Seq.{append-snoc}
 use borrow.Author.Tests.{eq-eqb, ne-eqb}
+use Rattle.codec.specs.Codec.{decode}
 use Rattle.sets.proofs.Tests.{cases}
 use Rattle.protocol.specs.Session.{Setting, begun}
-use Rattle.protocol.specs.Lists.{Call, closes, caller, leaves, answers, World, step, after, state, Prefix, Stands, isClosing, closings}
+use Rattle.protocol.specs.Rounds.{Board}
+use Rattle.protocol.specs.Calls.{receiving}
+use Rattle.protocol.proofs.Reached.{Reached, reached-taking, reached-closing}
+use Rattle.agreement.specs.Lists.{Call, closes, caller, leaves, answers, World, step, after, state, Prefix, Stands, isClosing, closings, sends, receives, decides}
 
 -- The boards.
 pub after-append : (w : World) (xs ys : List Call) → after w (xs ++ ys) ≡ after (after w xs) ys
@@ -134,3 +138,18 @@ along calls P start next = go [] calls refl (λ earlier p. subst P (sym (prefix-
     go done (c ∷ rest) e h =
         go (done ++ (c ∷ [])) rest (e ∙ sym (append-snoc done c rest))
         (λ earlier p. ⊎-elim (λ q. h earlier q) (λ x. subst P (sym x) (next done c (rest, e) h)) (prefix-snoc earlier done c p))
+
+-- After any calls.
+pub reached-after : (calls : List Call) (w : ℕ → Board) (i : ℕ) → Reached (w i) → Reached (after w calls i)
+unfolding after
+reached-after [] w i h = h
+reached-after (c ∷ calls) w i h = reached-after calls (step w c) i (one c)
+  where
+    done : (c : Call) → Reached (leaves c (w i))
+    done (receives j q f) = unfold leaves receiving in reached-taking (w i) q (decode f) h
+    done (sends j out) = unfold leaves in h
+    done (closes j) = unfold leaves in reached-closing (w i) h
+    done (decides j) = unfold leaves in h
+
+    one : (c : Call) → Reached (step w c i)
+    one c = unfold step in cases (eqb i (caller c)) (λ e. rw e (done c)) (λ e. rw e h)
