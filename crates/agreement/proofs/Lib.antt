@@ -8,8 +8,9 @@ pub mod Agreement
 pub mod Session
 pub mod Printed
 pub mod Prefixes
-pub mod Inbox
-pub mod Fairness
+pub mod Reduction
+pub mod Whereabouts
+pub mod Called
 pub mod Strict
 pub mod Demand
 pub mod FairCheck

@@ -54,10 +54,10 @@ pub closing-refused : (b : Board) → isTaken (judgeOpen b) ≡ false → closin
 unfolding closing
 closing-refused b e = rw e
 
--- A writing that is taken gives the frame of the board.
-pub sending-open : (b : Board) (out : List ℕ) (k : ℕ) → sending b out .answer ≡ taken (k ∷ []) → Open b
+-- A writing that is taken is made by an open board, and gives its frame.
+pub sending-open : (b : Board) (out : List ℕ) → sending b out .answer .number ≡ 0 → Open b
 unfolding sending judgeSending
-sending-open b out k e = open-facts b (both-taken (judgeOpen b) _ (ap (λ o. o .number) e) .0)
+sending-open b out e = open-facts b (both-taken (judgeOpen b) _ e .0)
 
 pub sending-gives : (b : Board) (out : List ℕ) (k : ℕ) → sending b out .answer ≡ taken (k ∷ []) → take k (sending b out .out) ≡ wireOf b
 unfolding sending judgeSending isTaken
