@@ -9,11 +9,11 @@ use mathlib.Core.Option.{Option, some, none}
 use native.Mathlib.Omega.{arith}
 use lib.Dec.{eqb, ltb}
 use lib.ListN.{length, getD}
-use borrow.Author.Tests.{lt-ltb, eqb-true}
+use borrow.Author.Tests.{eqb-true}
 use Rattle.sets.specs.Sets.{member, setOf}
 use Rattle.sets.specs.Structure.{tolerated}
 use Rattle.sets.specs.Only.{same}
-use Rattle.sets.proofs.Tests.{cases, clash, and-l, and-r, and-true, or-true}
+use Rattle.sets.proofs.Tests.{cases, clash, and-r, or-true}
 use Rattle.sets.proofs.Member.{member-setOf, setOf-below}
 use Rattle.sets.proofs.Tolerated.{tolerated-mono}
 use Rattle.sets.proofs.Only.{only-same}
@@ -23,12 +23,12 @@ use Rattle.plan.specs.Calls.{judged}
 use Rattle.plan.specs.Values.{default}
 use Rattle.schedule.specs.Schedule.{rounds}
 use Rattle.schedule.proofs.Levels.{rounds-pos}
-use Rattle.tree.specs.Labels.{Label, occurs, mask}
+use Rattle.tree.specs.Labels.{Label, occurs}
 use Rattle.theory.specs.Tree as T
 use Rattle.theory.specs.Tree.{Node, root, child}
 use Rattle.theory.proofs.Plans.{good}
 use Rattle.protocol.specs.Nodes.{read, internal, nodes, inner}
-use Rattle.protocol.proofs.Nodes.{no-node, root-node, node-root, node-has, node-inv, inner-has, inner-inv}
+use Rattle.protocol.proofs.Nodes.{no-node, root-node, node-root, node-has, node-inv, inner-has, inner-inv, internal-tol, internal-has}
 use Rattle.protocol.specs.Detection.{vote, tabulate, resolve}
 use Rattle.protocol.proofs.Judgement.{plan-facts}
 use Rattle.protocol.proofs.Bounds.{default-small, tabulate-at}
@@ -91,13 +91,12 @@ mem-node p i (suc (suc j)) k α m e =
 
 -- What the theory asks of a plan.
 pub inst-good : (p : Plan) (F : ℕ) → judged p .number ≡ 0 → F < 2 ^ p .n → tolerated (listed p) F ≡ true → T.Good (inst p) (λ i. member i F)
-unfolding internal tol
+unfolding tol
 inst-good p F e lF tF =
     let f = plan-facts p e in
     good (inst p)
-    (λ i k α N t. tol-path p α (node-below p (f .dealer-below) N) ∙ and-l (tolerated (listed p) (mask α)) (ltb (length α) (rounds p .0)) t)
-    (λ i k α N t _. and-true (tolerated (listed p) (mask α)) (ltb (length α) (rounds p .0))
-    (sym (tol-path p α (node-below p (f .dealer-below) N)) ∙ t) (lt-ltb (length α) (rounds p .0) (omega (arith, node-level p N))))
+    (λ i k α N t. tol-path p α (node-below p (f .dealer-below) N) ∙ internal-tol p i α t)
+    (λ i k α N t out. internal-has p i α (sym (tol-path p α (node-below p (f .dealer-below) N)) ∙ t) (omega (arith, node-level p N)) out)
     (λ i. member i F) (default-small p (omega (arith, f .two-values))) (f .dealer-below) (tol-mono p) (tol-q3 p e)
     (tolerated-mono (listed p) (p .n) (setOf (λ i. member i F) (p .n)) F (setOf-below (λ i. member i F) (p .n))
     (λ i l m. and-r (ltb i (p .n)) (member i F) (sym (member-setOf (λ i. member i F) (p .n) i) ∙ m)) tF)
