@@ -248,48 +248,39 @@ module _ {S Call Frame : Type 0} (B : Boards S Call Frame) (w₀ : ℕ → S) (N
 
   -- One call more, as board i sees it.
   module _ (before : List Call) (c : Call) (i : ℕ) where
-    abbrev now-at : S
-    now-at = after B w₀ before i
-
-    abbrev count : ℕ
-    count = closings B w₀ i before
-
-    abbrev longer : List Call
-    longer = before ++ (c ∷ [])
-
     abbrev brought : ℕ → ℕ → Option Frame
     brought j q = brings B (after B w₀ before) i j q c
 
-    took-next : (j q : ℕ) → took B w₀ i j q longer ≡ orElse (took B w₀ i j q before) (cond (leb count j) (brought j q) none)
+    took-next : (j q : ℕ) → took B w₀ i j q (before ++ (c ∷ [])) ≡ orElse (took B w₀ i j q before) (cond (leb (closings B w₀ i before) j) (brought j q) none)
     unfolding tookFrom
     took-next j q =
-        let z : count + 0 ≡ count = omega arith in
+        let z : closings B w₀ i before + 0 ≡ closings B w₀ i before = omega arith in
         took-append B w₀ i 0 j q before (c ∷ [])
         ∙ ap (orElse (took B w₀ i j q before)) (or-else-none _ ∙ ap (λ k. cond (leb k j) (brought j q) none) z)
 
-    took-same : (j q : ℕ) → brought j q ≡ none → took B w₀ i j q longer ≡ took B w₀ i j q before
+    took-same : (j q : ℕ) → brought j q ≡ none → took B w₀ i j q (before ++ (c ∷ [])) ≡ took B w₀ i j q before
     took-same j q e =
         took-next j q
-        ∙ ap (orElse (took B w₀ i j q before)) (cases (leb count j) (λ x. rw (x, e)) (λ x. rw x))
+        ∙ ap (orElse (took B w₀ i j q before)) (cases (leb (closings B w₀ i before) j) (λ x. rw (x, e)) (λ x. rw x))
         ∙ or-else-none (took B w₀ i j q before)
 
-    took-new : (j q : ℕ) (f : Frame) → count ≤ j → took B w₀ i j q before ≡ none → brought j q ≡ some f → took B w₀ i j q longer ≡ some f
+    took-new : (j q : ℕ) (f : Frame) → closings B w₀ i before ≤ j → took B w₀ i j q before ≡ none → brought j q ≡ some f → took B w₀ i j q (before ++ (c ∷ [])) ≡ some f
     unfolding orElse
-    took-new j q f l e h = took-next j q ∙ rw (e, le-leb count j l, h)
+    took-new j q f l e h = took-next j q ∙ rw (e, le-leb (closings B w₀ i before) j l, h)
 
     brought-other : (j q : ℕ) → i ≢ B .caller c → brought j q ≡ none
     brought-other j q ne = rw (ne-eqb i (B .caller c) ne)
 
-    brought-own : (j q : ℕ) (o : Option (Entry Frame)) → i ≡ B .caller c → B .takes c now-at ≡ o → brought j q ≡ entryFor j q o
+    brought-own : (j q : ℕ) (o : Option (Entry Frame)) → i ≡ B .caller c → B .takes c (after B w₀ before i) ≡ o → brought j q ≡ entryFor j q o
     brought-own j q o e h = rw (eq-eqb i (B .caller c) e, h)
 
-    brought-nothing : (j q : ℕ) → i ≡ B .caller c → B .takes c now-at ≡ none → brought j q ≡ none
+    brought-nothing : (j q : ℕ) → i ≡ B .caller c → B .takes c (after B w₀ before i) ≡ none → brought j q ≡ none
     unfolding entryFor
     brought-nothing j q e h = brought-own j q none e h
 
     -- A frame e is there for its step, and no other is.
-    took-entry : (m : ℕ) → count ≤ m → (e : Entry Frame) → ((q : ℕ) → brought m q ≡ entryFor m q (some e)) → e .step ≡ m → took B w₀ i m (e .sender) before ≡ none
-        → (q : ℕ) → update (λ q. took B w₀ i m q before) (e .sender) (e .frame) q ≡ took B w₀ i m q longer
+    took-entry : (m : ℕ) → closings B w₀ i before ≤ m → (e : Entry Frame) → ((q : ℕ) → brought m q ≡ entryFor m q (some e)) → e .step ≡ m → took B w₀ i m (e .sender) before ≡ none
+        → (q : ℕ) → update (λ q. took B w₀ i m q before) (e .sender) (e .frame) q ≡ took B w₀ i m q (before ++ (c ∷ []))
     took-entry m low e br z free q =
         let told : ℕ → Option Frame = λ q. took B w₀ i m q before in
         cases (eqb q (e .sender))

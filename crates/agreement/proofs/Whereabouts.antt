@@ -311,42 +311,39 @@ pub below-or-end : {C : Type 0} (j t : ℕ) → j ≤ t → (j < t → C) → (j
 below-or-end j t h f g = cases (ltb j t) (λ x. f (ltb-true j t x)) (λ x. g (omega (arith, ltb-false j t x)))
 
 module _ (s : Setting) (calls : List Call) (sound : Sound s) (fair : Fair s calls) where
-  abbrev P : Plan
-  P = s .plan
-
   -- What the faulty boards hand in, read off the whole list.
   pub adversary : Adversary
-  adversary i j q = R.took (boards P) (begun s) i j q calls
+  adversary i j q = R.took (boards (s .plan)) (begun s) i j q calls
 
   abbrev N : Session Board (List ℕ)
   N = inSteps s adversary sound
 
-  now-is : (before : List Call) (i : ℕ) → R.after (boards P) (begun s) before i ≡ state s before i
+  now-is : (before : List Call) (i : ℕ) → R.after (boards (s .plan)) (begun s) before i ≡ state s before i
   unfolding state
-  now-is before i = ap (λ (w : World). w i) (after-same P (begun s) before)
+  now-is before i = ap (λ (w : World). w i) (after-same (s .plan) (begun s) before)
 
-  same-steps : (q : ℕ) (then : List Call) (i : ℕ) (now : List Call) → L.SameRound s q then i now → stepOf P (state s then q) ≡ stepOf P (state s now i)
+  same-steps : (q : ℕ) (then : List Call) (i : ℕ) (now : List Call) → L.SameRound s q then i now → stepOf (s .plan) (state s then q) ≡ stepOf (s .plan) (state s now i)
   unfolding stepOf
-  same-steps q then i now h = ap₂ (λ (t : Run) (k : Round). S.step P t k - 1) (h .run) (h .round)
+  same-steps q then i now h = ap₂ (λ (t : Run) (k : Round). S.step (s .plan) t k - 1) (h .run) (h .round)
 
-  keeper-is : (q : ℕ) → q < P .n → member q (s .faulty) ≡ false → q ≢ P .dealer → keeper s q ≡ true
+  keeper-is : (q : ℕ) → q < s .plan .n → member q (s .faulty) ≡ false → q ≢ s .plan .dealer → keeper s q ≡ true
   unfolding keeper
   keeper-is q l f ne =
-      and-true (ltb q (P .n)) _ (lt-ltb q (P .n) l) (and-true (not (member q (s .faulty))) _ (true-not _ f) (true-not _ (ne-eqb q (P .dealer) ne)))
+      and-true (ltb q (s .plan .n)) _ (lt-ltb q (s .plan .n) l) (and-true (not (member q (s .faulty))) _ (true-not _ f) (true-not _ (ne-eqb q (s .plan .dealer) ne)))
 
   -- The dealer's frame holds its value.
-  dealt-read : member (P .dealer) (s .faulty) ≡ false → decode (dealing P (s .word) .values) ≡ s .word ∷ []
+  dealt-read : member (s .plan .dealer) (s .faulty) ≡ false → decode (dealing (s .plan) (s .word) .values) ≡ s .word ∷ []
   unfolding dealing
   dealt-read f =
-      let word : leb (P .span) (s .word) ≡ false = lt-leb (P .span) (s .word) (sound .word-below f) in
-      let judgement = cond (leb (P .span) (s .word)) (refused 18) (taken (encode (s .word ∷ []))) in
-      let deals : andThen (judged P) judgement ≡ judgement = taken-first (judged P) judgement (sound .accepted) in
+      let word : leb (s .plan .span) (s .word) ≡ false = lt-leb (s .plan .span) (s .word) (sound .word-below f) in
+      let judgement = cond (leb (s .plan .span) (s .word)) (refused 18) (taken (encode (s .word ∷ []))) in
+      let deals : andThen (judged (s .plan)) judgement ≡ judgement = taken-first (judged (s .plan)) judgement (sound .accepted) in
       let accepted : judgement ≡ taken (encode (s .word ∷ [])) = rw word refl in
       ap (λ (o : Outcome). decode (o .values)) (deals ∙ accepted) ∙ decode-encode (s .word ∷ [])
 
   -- What a writing gave is the frame of its board.
-  wrote-it : (before : List Call) (i q j : ℕ) (f : List ℕ) → keeper s q ≡ true → stepOf P (state s before i) ≡ j → L.Written s before i q f
-      → R.Written (boards P) (begun s) N before i j q (decode f)
+  wrote-it : (before : List Call) (i q j : ℕ) (f : List ℕ) → keeper s q ≡ true → stepOf (s .plan) (state s before i) ≡ j → L.Written s before i q f
+      → R.Written (boards (s .plan)) (begun s) N before i j q (decode f)
   unfolding answers wireOf
   wrote-it before i q j f kq ej w =
       let b = state s (w .earlier) q in
@@ -354,82 +351,82 @@ module _ (s : Setting) (calls : List Call) (sound : Sound s) (fair : Fair s call
         keeps = kq;
         earlier = w .earlier;
         call = sends q (w .out);
-        letter = record { step = stepOf P b; frame = frameOf b };
+        letter = record { step = stepOf (s .plan) b; frame = frameOf b };
         stands = w .stands;
-        wrote = ap (writesOf P (sends q (w .out)) i) (now-is (w .earlier) q) ∙ taken-writes P q i (w .out) b (ap (λ (o : Outcome). o .number) (w .wrote));
+        wrote = ap (writesOf (s .plan) (sends q (w .out)) i) (now-is (w .earlier) q) ∙ taken-writes (s .plan) q i (w .out) b (ap (λ (o : Outcome). o .number) (w .wrote));
         in-step = same-steps q (w .earlier) i before (w .same) ∙ ej;
         gave = ap decode (w .gave ∙ sending-gives b (w .out) (w .size) (w .wrote)) ∙ decode-encode (frameOf b);
       }
 
   -- A fair list of 01 is fair for the reduction.
   heard : (c : Call) (before : List Call) → Stands c before calls → (i : ℕ) → i ≡ caller c → keeper s i ≡ true
-      → endsOf c (R.after (boards P) (begun s) before i) ≡ true → (j : ℕ) → j < steps P
-      → (x : ℕ → Option (List ℕ)) → R.after (boards P) (begun s) before i ≡ hearing s adversary sound j i x
-      → (q : ℕ) → not (member q (s .faulty)) ≡ true → due P q i (stepRound P (suc j)) ≡ true → R.HandedIn (boards P) (begun s) N before i j q
+      → endsOf c (R.after (boards (s .plan)) (begun s) before i) ≡ true → (j : ℕ) → j < steps (s .plan)
+      → (x : ℕ → Option (List ℕ)) → R.after (boards (s .plan)) (begun s) before i ≡ hearing s adversary sound j i x
+      → (q : ℕ) → not (member q (s .faulty)) ≡ true → due (s .plan) q i (stepRound (s .plan) (suc j)) ≡ true → R.HandedIn (boards (s .plan)) (begun s) N before i j q
   unfolding answers caller
   heard c before st i own ki ok j l x is q hq d =
       let here : state s before i ≡ hearing s adversary sound j i x = sym (now-is before i) ∙ is in
       let (c-is, shut, _) = ends-facts c (state s before i) (ap (endsOf c) (sym (now-is before i)) ∙ ok) in
       let st′ = subst (λ z. Stands z before calls) (c-is ∙ ap closes (sym own)) st in
-      let k-is : state s before i .rec .round ≡ stepRound P (suc j) = ap (λ (b : Board). b .rec .round) here in
+      let k-is : state s before i .rec .round ≡ stepRound (s .plan) (suc j) = ap (λ (b : Board). b .rec .round) here in
       let fq = not-t (member q (s .faulty)) hq in
-      let brought = fair .heard i before st′ shut q fq (subst (λ k. due P q i k ≡ true) (sym k-is) d) in
+      let brought = fair .heard i before st′ shut q fq (subst (λ k. due (s .plan) q i k ≡ true) (sym k-is) d) in
       let h = brought .handed in
       let f = h .frame in
-      let in-step : stepOf P (state s (h .earlier) i) ≡ j =
-      same-steps i (h .earlier) i before (h .same) ∙ ap (stepOf P) here ∙ hearing-step s adversary sound j i x l in
+      let in-step : stepOf (s .plan) (state s (h .earlier) i) ≡ j =
+      same-steps i (h .earlier) i before (h .same) ∙ ap (stepOf (s .plan)) here ∙ hearing-step s adversary sound j i x l in
       record {
         earlier = h .earlier;
         call = receives i q f;
-        entry = record { sender = q; step = stepOf P (state s (h .earlier) i); frame = decode f };
+        entry = record { sender = q; step = stepOf (s .plan) (state s (h .earlier) i); frame = decode f };
         stands = h .stands;
         own = refl;
-        entered = ap (takesOf P (receives i q f)) (now-is (h .earlier) i) ∙ taken-takes P i q f (state s (h .earlier) i) (h .taken);
+        entered = ap (takesOf (s .plan) (receives i q f)) (now-is (h .earlier) i) ∙ taken-takes (s .plan) i q f (state s (h .earlier) i) (h .taken);
         from = refl;
         for = in-step;
-        as-sent = cases (eqb q (P .dealer))
-            (λ y. let z = eqb-true q (P .dealer) y in
+        as-sent = cases (eqb q (s .plan .dealer))
+            (λ y. let z = eqb-true q (s .plan .dealer) y in
             let word = dealt-read (subst (λ y. member y (s .faulty) ≡ false) z fq) in
             inl (told-dealer s adversary sound i q j fq z ∙ ap some (sym (ap decode (brought .as-sent .dealt z) ∙ word))))
-            (λ y. let ne = eqb-false q (P .dealer) y in
-            inr (wrote-it (h .earlier) i q j f (keeper-is q (due-sender P q i (stepRound P (suc j)) d) fq ne) in-step (brought .as-sent .written ne)));
+            (λ y. let ne = eqb-false q (s .plan .dealer) y in
+            inr (wrote-it (h .earlier) i q j f (keeper-is q (due-sender (s .plan) q i (stepRound (s .plan) (suc j)) d) fq ne) in-step (brought .as-sent .written ne)));
       }
 
-  fair-steps : R.Fair (boards P) (begun s) N calls
+  fair-steps : R.Fair (boards (s .plan)) (begun s) N calls
   unfolding adversary
   fair-steps = record {
     adversary = λ i j q h. told-faulty s adversary sound i q j (not-f (member q (s .faulty)) h);
-    heard = λ c before st i own ki ok l x y is q hq d. heard c before st i own ki ok (R.closings (boards P) (begun s) i before) l x is q hq d;
+    heard = λ c before st i own ki ok l x y is q hq d. heard c before st i own ki ok (R.closings (boards (s .plan)) (begun s) i before) l x is q hq d;
   }
 
   -- Board i after the calls `before`, against the session after as many steps as closings of it were taken.
   pub record InStep (before : List Call) (i : ℕ) : Type 0 where
-    pub most : closings (begun s) i before ≤ steps P
+    pub most : closings (begun s) i before ≤ steps (s .plan)
     pub list : listAfter s before i ≡ at s adversary (closings (begun s) i before) i .rec .detected
     -- past the first step
     pub root : 0 < closings (begun s) i before → getD (state s before i .cells) 0 blank ≡ getD (at s adversary (closings (begun s) i before) i .cells) 0 blank
     -- before the last step is closed
-    pub opened : closings (begun s) i before < steps P → Open (state s before i)
-    pub run : closings (begun s) i before < steps P → state s before i .rec .run ≡ stepRun P (suc (closings (begun s) i before))
-    pub round : closings (begun s) i before < steps P → state s before i .rec .round ≡ stepRound P (suc (closings (begun s) i before))
+    pub opened : closings (begun s) i before < steps (s .plan) → Open (state s before i)
+    pub run : closings (begun s) i before < steps (s .plan) → state s before i .rec .run ≡ stepRun (s .plan) (suc (closings (begun s) i before))
+    pub round : closings (begun s) i before < steps (s .plan) → state s before i .rec .round ≡ stepRound (s .plan) (suc (closings (begun s) i before))
     -- and after it
-    pub decided : closings (begun s) i before ≡ steps P → state s before i .rec .decided ≡ true
-    pub decision : closings (begun s) i before ≡ steps P → state s before i .rec .decision ≡ at s adversary (steps P) i .rec .decision
+    pub decided : closings (begun s) i before ≡ steps (s .plan) → state s before i .rec .decided ≡ true
+    pub decision : closings (begun s) i before ≡ steps (s .plan) → state s before i .rec .decision ≡ at s adversary (steps (s .plan)) i .rec .decision
 
   pub in-step : (before : List Call) → Prefix before calls → (i : ℕ) → keeper s i ≡ true → InStep before i
   unfolding listAfter
   in-step before pre i ki =
-      let w = R.whereabouts (boards P) (begun s) N (laws s adversary sound) calls fair-steps before pre i ki in
+      let w = R.whereabouts (boards (s .plan)) (begun s) N (laws s adversary sound) calls fair-steps before pre i ki in
       let j = closings (begun s) i before in
-      let count = closings-same P (begun s) i before in
-      let msg : ℕ → Option (List ℕ) = λ q. R.took (boards P) (begun s) i j q before in
-      let here : j < steps P → state s before i ≡ hearing s adversary sound j i msg = λ l. sym (now-is before i) ∙ w .here j count l in
-      let done : j ≡ steps P → state s before i ≡ at s adversary (steps P) i = λ z. sym (now-is before i) ∙ w .done (count ∙ z) in
-      let most : j ≤ steps P = omega (arith, w .most) in
+      let count = closings-same (s .plan) (begun s) i before in
+      let msg : ℕ → Option (List ℕ) = λ q. R.took (boards (s .plan)) (begun s) i j q before in
+      let here : j < steps (s .plan) → state s before i ≡ hearing s adversary sound j i msg = λ l. sym (now-is before i) ∙ w .here j count l in
+      let done : j ≡ steps (s .plan) → state s before i ≡ at s adversary (steps (s .plan)) i = λ z. sym (now-is before i) ∙ w .done (count ∙ z) in
+      let most : j ≤ steps (s .plan) = omega (arith, w .most) in
       record {
         most = most;
-        list = below-or-end j (steps P) most (λ l. ap (λ (b : Board). b .rec .detected) (here l)) (λ z. ap (λ (b : Board). b .rec .detected) (done z ∙ ap (λ k. at s adversary k i) (sym z)));
-        root = λ low. below-or-end j (steps P) most
+        list = below-or-end j (steps (s .plan)) most (λ l. ap (λ (b : Board). b .rec .detected) (here l)) (λ z. ap (λ (b : Board). b .rec .detected) (done z ∙ ap (λ k. at s adversary k i) (sym z)));
+        root = λ low. below-or-end j (steps (s .plan)) most
             (λ l. ap (λ (b : Board). getD (b .cells) 0 blank) (here l) ∙ hearing-root s adversary sound j i ki l msg low)
             (λ z. ap (λ (b : Board). getD (b .cells) 0 blank) (done z ∙ ap (λ k. at s adversary k i) (sym z)));
         opened = λ l. subst Open (sym (here l)) (hearing-open s adversary sound j i ki l msg);

@@ -33,7 +33,7 @@ use Rattle.protocol.specs.Rounds.{fill, counted, receive, fillMissing, copyOwn,
 use Rattle.protocol.specs.Calls.{isTaken, judgeNumber, judgeOther, judgeBoard, judgeCells, goodPlan, goodNumber, goodOther, goodPosition, goodMarks, goodDecision, goodRecord, judgeRecord, judgeOpen, freshRecord, voidRecord, judgeBeginning, beginning, dealing, judgeReceiving, taking, receiving, frameOf, wireOf, judgeSending, sending, closedValues, closing, deciding}
 use Rattle.protocol.specs.Cases.{sameList}
 use Rattle.protocol.specs.Session.{begun, keeper, Sound}
-use Rattle.agreement.specs.Lists.{receives, closes, answers, after, caller, leaves, state, step, Fair, EndsRun, root, list, listAfter, onEvery, Agreement}
+use Rattle.agreement.specs.Lists.{receives, closes, answers, after, caller, leaves, state, step, Fair, EndsRun, root, listAfter, onEvery, Agreement}
 use Rattle.agreement.proofs.FairCheck.{everywhere, somewhere, alike, writes, hands, truthful, lacks, fairCall, fairCheck, carriesCall, carriesCheck, checked-fair}
 use Rattle.agreement.proofs.Demand.{demand3}
 use Rattle.cut_list.specs.List.{cutSetting, cutCalls, takeCalls, cutBefore}

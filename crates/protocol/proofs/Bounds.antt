@@ -48,9 +48,6 @@ module _ (p : Plan) (some-value : 0 < p .span) where
   some-small : (x : ℕ) → x < p .span → Small (some x)
   some-small x l v e = let z : x ≡ v = cc in omega arith
 
-  none-small : Small none
-  none-small v e = let z : _≡_ {A = ℕ} 0 1 = cc in absurd (omega arith)
-
   pub only-small : (f : ℕ → Bool) → Small (only f (p .span))
   only-small f v e = only-some f (p .span) v e .0
 

@@ -24,7 +24,7 @@ use Rattle.protocol.specs.Limits.{cellsNeeded, frameRoom}
 use Rattle.protocol.specs.Nodes.{due}
 use Rattle.protocol.specs.Rounds.{boardWith, Board}
 use Rattle.protocol.specs.Calls.{isTaken, voidRecord, judgeOpen, judgeSending, dealing, taking, receiving, sending, frameOf, wireOf, beginning}
-use Rattle.protocol.specs.Session.{Adversary, Setting, boardAt, begun, hears, handIn, session, at, takeAll, keeper, Sound}
+use Rattle.protocol.specs.Session.{Adversary, Setting, boardAt, begun, hears, handIn, at, takeAll, keeper, Sound}
 use Rattle.protocol.specs.Sheet.{Frame, headPlan}
 use Rattle.protocol.specs.Sheet as S
 use Rattle.protocol.specs.Playing.{findFrame, decoded, sheetAdversary, part, replacePart, setting, finalCells, finalBoards}

@@ -1,7 +1,7 @@
 -- `judge_number` meets its contract.
 -- Assumes nothing.
 use borrow.Author.Tests.{lt-leb, le-leb, eq-eqb, ne-eqb}
-use Rattle.refusals.specs.Outcome.{taken, refusal, verdict, andThen}
+use Rattle.refusals.specs.Outcome.{refusal, verdict, andThen}
 use Rattle.protocol.specs.Calls.{judgeNumber, judgeOther, judgeBoard}
 use Rattle.judging.proofs.judging.judge_number.Statement.{statement}
 use Rattle.judging.proofs.judging.judge_number.Tie as tie
