@@ -6,15 +6,11 @@ use mathlib.Core.Bool.{false, _||_, cond}
 use mathlib.Core.List.{List, [], _∷_, List·Memᴰ, List·Memᴰ·head, List·Memᴰ·tail}
 use mathlib.Core.Option.{Option}
 use native.Mathlib.Omega.{arith}
-use lib.Dec.{ltb}
 use lib.ListN.{length, set}
-use borrow.Author.Tests.{ltb-true}
 use Rattle.sets.specs.Sets.{member}
-use Rattle.sets.specs.Structure.{tolerated}
-use Rattle.sets.proofs.Tests.{cases, and-l, and-r}
+use Rattle.sets.proofs.Tests.{cases}
 use Rattle.plan.specs.declared.plan.Plan.{Plan}
 use Rattle.plan.specs.Calls.{judged}
-use Rattle.plan.specs.Listed.{listed}
 use Rattle.schedule.specs.declared.rounds.Run.{Run}
 use Rattle.schedule.specs.declared.rounds.Round.{Round}
 use Rattle.schedule.specs.Schedule.{rounds}
@@ -23,11 +19,11 @@ use Rattle.tree.specs.Places.{cellCount}
 use Rattle.tree.specs.Cells.{cellAt}
 use Rattle.tree.proofs.Labels.{label-below}
 use Rattle.tree.proofs.Masks.{mask-member}
-use Rattle.protocol.specs.Nodes.{internal, nodes, inner}
+use Rattle.protocol.specs.Nodes.{nodes, inner}
 use Rattle.protocol.specs.declared.records.Rule.the-variants as Rule
 use Rattle.protocol.specs.Listing.{join}
 use Rattle.protocol.specs.Detection.{byResolving, passes, detectC, detectAllC, detectLevels}
-use Rattle.protocol.proofs.Nodes.{no-node, node-root, inner-inv, node-inv, node-label, node-length}
+use Rattle.protocol.proofs.Nodes.{no-node, node-root, inner-inv, node-inv, node-label, node-length, internal-tol, internal-above}
 use Rattle.voting.specs.Worth.{worth, table}
 use Rattle.voting.specs.Tables.{explainedBy}
 use Rattle.voting.proofs.Laws.{explained-table}
@@ -67,25 +63,25 @@ module _ (p : Plan) (i : ℕ) (cells : List ℕ) where
       -- The child of an internal node holds what it resolves to.
       child-done : (k : ℕ) (α : Label) → List·Memᴰ α (inner p i k) → (c : ℕ) → c < p .n → occurs c α ≡ false
           → cellAt (p .n) (settledAll p i cells) (c ∷ α) ≡ worth (byResolving p i cells α c)
-      unfolding settledAll byResolving internal
+      unfolding settledAll byResolving
       child-done k α m c l o =
           let (v, t) = inner-inv p i k α m in
           let e : length α ≡ k = node-length p i k α v in
-          let h : length α < rounds p .0 = ltb-true (length α) (rounds p .0) (and-r (tolerated (listed p) (mask α)) (ltb (length α) (rounds p .0)) t) in
+          let h : length α < rounds p .0 = internal-above p i α t in
           let u = node-under p i k (suc (rounds p .0 - suc (length α))) α v (omega arith) in
           settled-done p i ld (under-trans u (down t l o here)) (root-labelled p) cells r
 
       module _ (good : judged p .number ≡ 0) (m : p .span ≤ 255) where
         passes-same : (k : ℕ) (α : Label) (list : ℕ) → List·Memᴰ α (inner p i k)
             → passesBy p (settledAll p i cells) α list ≡ passes p α (byResolving p i cells α) list
-        unfolding passesBy passes internal worth
+        unfolding passesBy passes worth
         passes-same k α list w =
             let (v, t) = inner-inv p i k α w in
             ap (λ x. member (last α) list || explainedBy p (mask α) x list)
             (table-worth (standing (p .n) (settledAll p i cells) α) (byResolving p i cells α) (mask α) (p .n)
             (λ c l o. child-done k α w c l (sym (mask-member c α) ∙ o)))
             ∙ ap (λ x. member (last α) list || x)
-            (sym (explained-table p α (byResolving p i cells α) list good m (and-l (tolerated (listed p) (mask α)) (ltb (length α) (rounds p .0)) t)
+            (sym (explained-table p α (byResolving p i cells α) list good m (internal-tol p i α t)
             (label-below (p .n) (p .dealer) k α ld (node-label p i k α v))))
 
         detect-same : (run : Run) (round : Round) (k : ℕ) (αs : List Label) (list : ℕ) → ((α : Label) → List·Memᴰ α αs → List·Memᴰ α (inner p i k))

@@ -6,7 +6,7 @@ use lib.Dec.{eqb}
 use lib.ListN.{replicate}
 use Rattle.plan.specs.Calls.{planOn}
 use Rattle.protocol.specs.Session.{Setting}
-use Rattle.protocol.specs.Lists.{Call, receives, sends, closes, decides}
+use Rattle.agreement.specs.Lists.{Call, receives, sends, closes, decides}
 
 -- n = 6, the sets {1, 3, 4, 5} and {0}, dealer 1, values 0 and 1, depth 4. F = {1, 3, 4, 5} has the dealer; boards 0 and 2 have records.
 -- Board 2 lent three cells too many.

@@ -6,23 +6,21 @@ use mathlib.Core.Bool.{true, false, not}
 use mathlib.Core.List.{List, [], _∷_, map, List·Memᴰ, List·Memᴰ·head, List·Memᴰ·tail}
 use native.Mathlib.Numerals.{add-one}
 use native.Mathlib.Omega.{arith}
-use lib.Dec.{ltb}
 use lib.ListN.{length, getD, take, drop, length-map, List·getD-map}
 use lib.Seq.{drop-cons, take-at}
 use borrow.Author.Tests.{ne-eqb}
 use Rattle.sets.specs.Structure.{tolerated}
-use Rattle.sets.proofs.Tests.{and-l, not-t}
+use Rattle.sets.proofs.Tests.{not-t}
 use Rattle.plan.specs.declared.plan.Plan.{Plan}
 use Rattle.plan.specs.Listed.{listed}
 use Rattle.schedule.specs.declared.rounds.Round.{Round}
-use Rattle.schedule.specs.Schedule.{rounds}
 use Rattle.tree.specs.Labels.{Label, occurs, mask, last, labels, labelAt}
 use Rattle.tree.specs.Places.{rank, place, cellCount, childIndex, startWithin}
 use Rattle.tree.proofs.Entries.{getD-mem}
 use Rattle.tree.proofs.NodePlaces.{at-lt}
 use Rattle.tree.proofs.Ranks.{rank-lt, rank-get}
-use Rattle.protocol.specs.Nodes.{internal, inner, carried, sent}
-use Rattle.protocol.proofs.Nodes.{filter-inv, inner-inv, node-label}
+use Rattle.protocol.specs.Nodes.{inner, carried, sent}
+use Rattle.protocol.proofs.Nodes.{filter-inv, inner-inv, node-label, internal-tol}
 use Rattle.protocol.proofs.Few.{carried-few}
 use Rattle.walk.specs.Walk.{code}
 use Rattle.walk.specs.Listing.{Walkable, Lists}
@@ -172,11 +170,10 @@ module _ {p : Plan} {holders : List ℕ} {board : ℕ} {k : Round} (s : Standing
     -- They are internal.
     pub inner-front-held : (j : ℕ) → j < length (take (count - 0) after)
         → tolerated (listed p) (mask (nodeAt p level (getD (take (count - 0) after) j 0))) ≡ true
-    unfolding internal
     inner-front-held =
         subst (λ nodes. (j : ℕ) → j < length nodes → tolerated (listed p) (mask (nodeAt p level (getD nodes j 0))) ≡ true) (sym inner-front)
         (node-has p level (s .dealer-below) (s .most-boards) (inner p board level) inner-labels (λ α. tolerated (listed p) (mask α) ≡ true)
-        (λ α m. and-l (tolerated (listed p) (mask α)) (ltb (length α) (rounds p .0)) (inner-inv p board level α m .1)))
+        (λ α m. internal-tol p board α (inner-inv p board level α m .1)))
 
   module _ (q : ℕ) where
     abbrev αs : List Label

@@ -18,7 +18,7 @@ use Rattle.tree.specs.Places.{countWithin}
 use Rattle.tree.proofs.Within.{count-within}
 use Rattle.protocol.specs.declared.records.Record.{Record}
 use Rattle.protocol.specs.Rounds.{Board}
-use Rattle.protocol.specs.Calls.{Result, judgeCells, judgeRecord, judgeOpen}
+use Rattle.protocol.specs.Calls.{Result, judgeCells, judgeRecord, judgeDecided, judgeOpen}
 use Rattle.protocol.proofs.Judgement.{plan-facts, record-facts}
 
 -- The boards below n, as a plan within its limits has them.
@@ -43,11 +43,11 @@ then-same o a b h =
     (λ e. refused-first o a (eqb-false (o .number) 0 e) ∙ sym (refused-first o b (eqb-false (o .number) 0 e)))
 
 pub open-judged : (b : Board)
-    → andThen (judgeRecord (b .rec)) (andThen (roomed (b .rec .plan) (b .cells)) (cond (b .rec .decided) (refused 13) (taken []))) ≡ judgeOpen b
+    → andThen (judgeRecord (b .rec)) (andThen (roomed (b .rec .plan) (b .cells)) (judgeDecided (b .rec .decided))) ≡ judgeOpen b
 unfolding judgeOpen
 open-judged b =
     then-same (judgeRecord (b .rec)) _ _
-    (λ e. ap (λ x. andThen x (cond (b .rec .decided) (refused 13) (taken [])))
+    (λ e. ap (λ x. andThen x (judgeDecided (b .rec .decided)))
     (room-judged (b .rec .plan) (b .cells) (record-facts (b .rec) e .plan-good)))
 
 -- The three parts of a result.

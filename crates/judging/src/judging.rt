@@ -18,7 +18,7 @@ ghost use lib.Dec.{ltb};
 ghost use lib.ListN.{length};
 ghost use Rattle.refusals.specs.Outcome.{taken, refused, verdict};
 ghost use Rattle.tree.specs.Places.{countWithin};
-ghost use Rattle.protocol.specs.Calls.{isTaken, judgeBoard, goodMarks, goodDecision, goodRecord, judgeRecord, judgeOpen};
+ghost use Rattle.protocol.specs.Calls.{isTaken, judgeBoard, goodMarks, goodDecision, goodRecord, judgeRecord, judgeDecided, judgeOpen};
 ghost use Rattle.protocol.specs.Rounds.{boardWith};
 
 // The board's number: 9 and 10.
@@ -104,7 +104,7 @@ pub fn judge_record(r: Record) -> Verdict
 
 // Has the board decided? 13.
 fn judge_decided(decided: bool) -> Verdict
-    ensures { λ v. ⌜ verdict v ≡ cond decided (refused 13) (taken []) ⌝ }
+    ensures { λ v. ⌜ verdict v ≡ judgeDecided decided ⌝ }
 {
     if decided {
         return Verdict::Refused(Refusal::Decided);

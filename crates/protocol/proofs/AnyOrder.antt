@@ -9,23 +9,23 @@ use mathlib.Core.Option.{Option, some, none, Option·getD}
 use native.Mathlib.Omega.{arith}
 use lib.Bits.{bitAnd, and-comm}
 use lib.Dec.{eqb}
-use lib.ListN.{length}
+use lib.ListN.{length, getD}
 use lib.Seq.{set-comm}
 use borrow.Author.Tests.{eqb-true, eqb-false, eq-eqb, ne-eqb}
 use Rattle.sets.specs.Sets.{member, insert, within}
 use Rattle.sets.proofs.Tests.{cases, clash, and-true}
 use Rattle.sets.proofs.Member.{member-insert, member-within}
-use Rattle.plan.specs.declared.plan.Plan.{Plan}
-use Rattle.schedule.specs.declared.rounds.Round.{Round}
 use Rattle.refusals.specs.Outcome.{taken, refused}
 use Rattle.refusals.proofs.Outcomes.{taken-first}
-use Rattle.tree.specs.Labels.{Label}
-use Rattle.tree.proofs.Labels.{label-length}
-use Rattle.tree.specs.Places.{cellCount, place}
-use Rattle.tree.specs.Cells.{cellAt, store}
-use Rattle.tree.proofs.Places.{place-injective}
-use Rattle.protocol.specs.declared.records.Record.{Record}
+use Rattle.plan.specs.declared.plan.Plan.{Plan}
 use Rattle.plan.specs.Values.{default, value}
+use Rattle.schedule.specs.declared.rounds.Round.{Round}
+use Rattle.tree.specs.Labels.{Label}
+use Rattle.tree.proofs.Labels.{label-length, root-has}
+use Rattle.tree.specs.Places.{cellCount, place}
+use Rattle.tree.specs.Cells.{cellAt, store, blank}
+use Rattle.tree.proofs.Places.{place-injective, root-place}
+use Rattle.protocol.specs.declared.records.Record.{Record}
 use Rattle.protocol.specs.Nodes.{read, sent, due, frame}
 use Rattle.protocol.specs.Rounds.{boardWith, Board, fill, counted, receive}
 use Rattle.protocol.specs.Calls.{judgeOpen, judgeReceiving, frameOf}
@@ -33,7 +33,7 @@ use Rattle.protocol.proofs.Nodes.{inner-inv, node-label, node-length, s
 use Rattle.protocol.proofs.Fill.{IsLabel, Children}
 use Rattle.protocol.proofs.Judgement.{Good, good-dealer, open-taken}
 use Rattle.protocol.proofs.Listing.{insert-below}
-use Rattle.protocol.proofs.Reached.{due-sender}
+use Rattle.protocol.proofs.Taken.{due-sender}
 use Rattle.protocol.specs.Records.{withTaken}
 use Rattle.protocol.proofs.Hearing.{isGiven, accepts, marks, content, heardCells, marks-at, marks-below, heard, heard-open, heard-outside, sent-label}
 
@@ -129,16 +129,17 @@ module _ (r : Record) (msg : ℕ → Option (List ℕ)) where
   cells-none cells (suc j) h = rw (h j (omega arith)) (cells-none cells j (λ q l. h q (omega arith)))
 
 -- The frames told, and one of board q.
-unfoldable pub update : (ℕ → Option (List ℕ)) → ℕ → List ℕ → ℕ → Option (List ℕ)
-update msg q f x = cond (eqb x q) (some f) (msg x)
+module _ {Frame : Type 0} (msg : ℕ → Option Frame) (q : ℕ) (f : Frame) where
+  unfoldable pub update : ℕ → Option Frame
+  update x = cond (eqb x q) (some f) (msg x)
 
-pub update-here : (msg : ℕ → Option (List ℕ)) (q : ℕ) (f : List ℕ) → update msg q f q ≡ some f
-unfolding update
-update-here msg q f = rw (eq-eqb q q refl)
+  pub update-here : update q ≡ some f
+  unfolding update
+  update-here = rw (eq-eqb q q refl)
 
-pub update-other : (msg : ℕ → Option (List ℕ)) (q : ℕ) (f : List ℕ) (x : ℕ) → x ≢ q → update msg q f x ≡ msg x
-unfolding update
-update-other msg q f x ne = rw (ne-eqb x q ne)
+  pub update-other : (x : ℕ) → x ≢ q → update x ≡ msg x
+  unfolding update
+  update-other x ne = rw (ne-eqb x q ne)
 
 -- One frame more, of board q.
 module _ (r : Record) (msg : ℕ → Option (List ℕ)) (q : ℕ) (f : List ℕ) where
@@ -284,3 +285,15 @@ module _ (r : Record) (g : Good r) (undecided : r .decided ≡ false) (cells : L
 
   pub heard-frame : (msg : ℕ → Option (List ℕ)) → frameOf (heardAll msg) ≡ frameOf (boardWith r cells)
   heard-frame msg = part-frame msg (r .plan .n) (omega arith)
+
+  -- Past round 1 hearing leaves the root alone.
+  pub heard-root : (msg : ℕ → Option (List ℕ)) → 2 ≤ r .round .0 → getD (heardAll msg .cells) 0 blank ≡ getD cells 0 blank
+  unfolding cellAt
+  heard-root msg later =
+      let p = r .plan in
+      let root = p .dealer ∷ [] in
+      let cell : (c : List ℕ) → getD c 0 blank ≡ cellAt (p .n) c root = λ c. ap (λ x. getD c x blank) (sym (root-place (p .n) (p .dealer))) in
+      cell (heardAll msg .cells)
+      ∙ heard-outside r g undecided msg cells room (p .n) (omega arith) 1 root (root-has (p .n) (p .dealer))
+      (λ w. absurd (omega (arith, node-length p (r .board) (r .round .0) root w)))
+      ∙ sym (cell cells)

@@ -1,29 +1,29 @@
 -- Values are below the span, and lists name boards below n.
 -- Assumes nothing.
-use Prim.Native.Nat.{ℕ, zero, suc, _-_, _<_, _^_}
-use mathlib.Core.Path.{_≡_, refl}
+use Prim.Native.Nat.{ℕ, zero, suc, _-_, _<_, _^_, _+_}
+use mathlib.Core.Path.{_≡_, refl, _∙_, ap}
 use mathlib.Core.Bool.{true, false, Bool}
-use mathlib.Core.List.{List, [], _∷_, List·Memᴰ, List·Memᴰ·head, List·Memᴰ·tail}
+use mathlib.Core.List.{List, _∷_, List·Memᴰ, List·Memᴰ·head, List·Memᴰ·tail, []}
 use mathlib.Core.Option.{Option, some, none, Option·getD}
 use native.Mathlib.Omega.{arith}
 use lib.Dec.{ltb}
-use lib.ListN.{length}
+use lib.ListN.{length, getD}
 use borrow.Author.Tests.{ltb-true}
 use Rattle.sets.proofs.Tests.{cases}
+use Rattle.sets.specs.Only.{only}
+use Rattle.sets.proofs.Only.{only-some}
 use Rattle.plan.specs.declared.plan.Plan.{Plan}
+use Rattle.plan.specs.Values.{default, value}
 use Rattle.schedule.specs.declared.rounds.Run.{Run}
 use Rattle.schedule.specs.declared.rounds.Round.{Round}
 use Rattle.schedule.specs.Schedule.{rounds}
 use Rattle.tree.specs.Labels.{Label, last, labels}
 use Rattle.tree.specs.Cells.{cellAt}
 use Rattle.tree.proofs.Labels.{no-label, root-inv, label-inv}
-use Rattle.plan.specs.Values.{default, value}
 use Rattle.protocol.specs.Nodes.{read, internal, inner}
-use Rattle.sets.specs.Only.{only}
-use Rattle.sets.proofs.Only.{only-some}
 use Rattle.protocol.specs.declared.records.Rule.the-variants as Rule
 use Rattle.protocol.specs.Listing.{join}
-use Rattle.protocol.specs.Detection.{vote, resolve, resolveRoot, byCell, byResolving, passes, Scan, detectG, detectAllG, detectC, detectAllC, detectLevels}
+use Rattle.protocol.specs.Detection.{vote, resolve, resolveRoot, byCell, byResolving, passes, Scan, detectG, detectAllG, detectC, detectAllC, detectLevels, tabulate}
 use Rattle.protocol.specs.Rounds.{Board, gather}
 use Rattle.protocol.proofs.Nodes.{inner-inv, node-label}
 use Rattle.protocol.proofs.Listing.{join-below}
@@ -47,9 +47,6 @@ module _ (p : Plan) (some-value : 0 < p .span) where
 
   some-small : (x : ℕ) → x < p .span → Small (some x)
   some-small x l v e = let z : x ≡ v = cc in omega arith
-
-  none-small : Small none
-  none-small v e = let z : _≡_ {A = ℕ} 0 1 = cc in absurd (omega arith)
 
   pub only-small : (f : ℕ → Bool) → Small (only f (p .span))
   only-small f v e = only-some f (p .span) v e .0
@@ -123,3 +120,10 @@ unfolding gather
 gather-below b l h =
     detectG-below (b .rec .plan) l (b .rec .board) (b .rec .run) (b .rec .round) (inner (b .rec .plan) (b .rec .board) (b .rec .round .0 - 1)) _
     (λ α m. (b .rec .round .0 - 1, m)) h
+
+-- Entry c of a table.
+pub tabulate-at : (f : ℕ → Option ℕ) (k i c : ℕ) → c < k → getD (tabulate f i k) c none ≡ f (i + c)
+unfolding tabulate
+tabulate-at f zero i c l = absurd (omega arith)
+tabulate-at f (suc k) i zero l = ap f (let z : i ≡ i + 0 = omega arith in z)
+tabulate-at f (suc k) i (suc c) l = tabulate-at f k (suc i) c (omega arith) ∙ ap f (let z : suc i + c ≡ i + suc c = omega arith in z)

@@ -36,7 +36,7 @@ use Rattle.protocol.specs.Rounds.{Board, counted, receive}
 use Rattle.protocol.specs.Calls.{isTaken, judgeOpen, judgeReceiving, taking, receiving, frameOf, wireOf, judgeSending, sending}
 use Rattle.protocol.proofs.Nodes.{inner-inv, node-label}
 use Rattle.protocol.proofs.Judgement.{is-taken, plan-facts, Open, open-taken}
-use Rattle.protocol.proofs.Reached.{receiving-facts, taking-refused, due-sender}
+use Rattle.protocol.proofs.Taken.{receiving-facts, taking-refused, due-sender}
 
 -- Filters.
 pub filter-length : (f : Label → Bool) (αs : List Label) → length (filter f αs) ≤ length αs

@@ -10,21 +10,21 @@ use native.Mathlib.Omega.{arith}
 use lib.Dec.{eqb}
 use lib.ListN.{length, length-map}
 use lib.Pow.{pow-pos}
-use Rattle.protocol.proofs.Listing.{insert-below}
-use Rattle.protocol.proofs.Bounds.{read-small}
 use borrow.Author.Tests.{eqb-true, eqb-false, eq-eqb, ne-eqb, lt-ltb}
 use Rattle.sets.specs.Sets.{member, insert}
 use Rattle.sets.proofs.Tests.{cases, clash, and-r, and-true, not-t, true-not}
 use Rattle.sets.proofs.Member.{member-insert, member-empty}
-use Rattle.plan.specs.declared.plan.Plan.{Plan}
-use Rattle.schedule.specs.declared.rounds.Round.{Round}
 use Rattle.refusals.specs.Outcome.{taken, refused}
 use Rattle.refusals.proofs.Outcomes.{taken-first}
+use Rattle.plan.specs.declared.plan.Plan.{Plan}
+use Rattle.plan.specs.Values.{default, value}
+use Rattle.schedule.specs.declared.rounds.Round.{Round}
 use Rattle.tree.specs.Labels.{Label}
 use Rattle.tree.specs.Places.{cellCount}
 use Rattle.tree.specs.Cells.{cellAt}
+use Rattle.protocol.proofs.Listing.{insert-below}
+use Rattle.protocol.proofs.Bounds.{read-small}
 use Rattle.protocol.specs.declared.records.Record.{Record}
-use Rattle.plan.specs.Values.{default, value}
 use Rattle.protocol.specs.Records.{withTaken}
 use Rattle.protocol.specs.Nodes.{read, nodes, sent, due, frame}
 use Rattle.protocol.specs.Rounds.{boardWith, Board, fill, counted, receive, fillMissing, copyOwn}
@@ -34,7 +34,8 @@ use Rattle.protocol.proofs.Nodes.{sent-node, node-label}
 use Rattle.protocol.proofs.Fill.{IsLabel, fill-length, fill-other, fill-map, fill-none, value-default}
 use Rattle.protocol.proofs.Local.{SameOutside, fill-outside, missing-outside, own-outside, own-length, missing-length}
 use Rattle.protocol.proofs.Judgement.{Good, good-dealer, Open, open-taken}
-use Rattle.protocol.proofs.Reached.{taking-taken, taking-refused}
+use Rattle.protocol.proofs.Taken.{taking-taken, taking-refused}
+use Rattle.protocol.proofs.Turns.{listed-silent}
 
 unfoldable pub isGiven : Option (List ℕ) → Bool
 isGiven none = false
@@ -307,11 +308,11 @@ module _ (r : Record) (g : Good r) (undecided : r .decided ≡ false) (msg : ℕ
 
     -- A listed board counts as silent.
     pub silenced : q ≢ r .board → due P₀ q (r .board) (r .round) ≡ true → member q (r .detected) ≡ true → read P₀ filled (q ∷ α) ≡ default P₀
-    unfolding read content counted
+    unfolding read content
     silenced ne d on =
         let αs = sent P₀ q (r .board) (r .round) in
         cases (accepts (r .plan) (r .board) (r .round) (r .detected) msg q)
-        (λ a. let c : content (r .plan) (r .board) (r .round) (r .detected) msg q ≡ [] = rw on (ap (λ b. cond b (Option·getD (msg q) []) []) (and-false (eqb (length (Option·getD (msg q) [])) (length αs)))) in
+        (λ a. let c : content (r .plan) (r .board) (r .round) (r .detected) msg q ≡ [] = listed-silent (r .detected) q αs (Option·getD (msg q) []) on in
         ap (value P₀) (taken-cell ne a ∙ ap (λ vs. cellAt (P₀ .n) (fill P₀ q αs vs (heardCells (r .plan) (r .board) (r .round) (r .detected) msg cells q)) (q ∷ α)) c
         ∙ stored-none P₀ L₀ (r .board) (r .round) low q (heardCells (r .plan) (r .board) (r .round) (r .detected) msg cells q) α lq heard-room m) ∙ value-default P₀)
         (λ a. ap (value P₀) (missed-cell ne d a) ∙ value-default P₀)

@@ -1,9 +1,9 @@
 -- What a record that passes number 12 meets, and what a call that is taken has passed.
 -- Assumes nothing.
 use Prim.Native.Nat.{ℕ, _≤_, _<_, _^_}
-use mathlib.Core.Path.{_≡_, ap}
-use mathlib.Core.Logic.{_≢_, ⊎-elim}
-use mathlib.Core.Bool.{true, false, not, _&&_, _||_}
+use mathlib.Core.Path.{_≡_, ap, refl}
+use mathlib.Core.Logic.{_≢_, ⊎-elim, _↔_}
+use mathlib.Core.Bool.{true, false, not, _&&_}
 use mathlib.Core.List.{List, []}
 use native.Mathlib.Omega.{arith}
 use lib.Dec.{eqb, leb, ltb}
@@ -12,18 +12,17 @@ use borrow.Author.Tests.{eq-eqb, ne-eqb, eqb-true, eqb-false, lt-ltb, le-ltb, lt
 use Rattle.sets.specs.Sets.{within, boards}
 use Rattle.sets.proofs.Tests.{cases, clash, and-l, and-r, and-true, or-true, or-left, or-right, not-t, true-not}
 use Rattle.sets.proofs.Member.{within-boards, boards-within}
+use Rattle.refusals.specs.Outcome.{Outcome, taken, refused, andThen}
+use Rattle.refusals.proofs.Outcomes.{passed, both-taken}
 use Rattle.plan.specs.declared.plan.Plan.{Plan}
 use Rattle.plan.specs.Listed.{listed}
-use Rattle.schedule.specs.Schedule.{hasRound}
-use Rattle.refusals.specs.Outcome.{Outcome, taken, refused, andThen}
 use Rattle.plan.specs.Calls.{judged, settingsOf}
-use Rattle.refusals.proofs.Outcomes.{passed, both-taken}
 use Rattle.plan.proofs.Accepted.{Accepted, accepted}
 use Rattle.schedule.proofs.Steps.{Has, has-round, round-has}
 use Rattle.tree.specs.Places.{cellCount}
 use Rattle.protocol.specs.declared.records.Record.{Record}
 use Rattle.protocol.specs.Rounds.{Board}
-use Rattle.protocol.specs.Calls.{isTaken, judgeBoard, judgeCells, goodMarks, goodDecision, goodRecord, judgeRecord, judgeOpen}
+use Rattle.protocol.specs.Calls.{isTaken, judgeNumber, judgeOther, judgeBoard, judgeCells, goodPlan, goodNumber, goodOther, goodPosition, goodMarks, goodDecision, goodRecord, judgeRecord, judgeOpen}
 
 pub is-taken : (o : Outcome) → isTaken o ≡ true → o .number ≡ 0
 unfolding isTaken
@@ -38,7 +37,7 @@ pub plan-facts : (p : Plan) → judged p .number ≡ 0 → Accepted (p .n) (p .c
 unfolding judged
 plan-facts p e = accepted (p .n) (p .count) (listed p) (settingsOf p) e
 
--- A good record.
+-- A good record, by the grounds of 12: its plan, its number, which is not the dealer's, its position, its marks and its decision.
 pub record Good (r : Record) : Type 0 where
   pub plan-good : judged (r .plan) .number ≡ 0
   pub below : r .board < r .plan .n
@@ -51,16 +50,39 @@ pub record Good (r : Record) : Type 0 where
 pub good-dealer : (r : Record) → Good r → r .plan .dealer < r .plan .n
 good-dealer r g = plan-facts (r .plan) (g .plan-good) .dealer-below
 
+-- 9 and 10.
+pub number-facts : (p : Plan) (i : ℕ) → judgeNumber p i .number ≡ 0 → i < p .n
+unfolding judgeNumber
+number-facts p i e = leb-false (p .n) i (passed (leb (p .n) i) (refused 9) (taken []) (omega arith) e .0)
+
+pub number-taken : (p : Plan) (i : ℕ) → i < p .n → judgeNumber p i ≡ taken []
+unfolding judgeNumber
+number-taken p i l = rw (lt-leb (p .n) i l)
+
+pub other-facts : (p : Plan) (i : ℕ) → judgeOther p i .number ≡ 0 → i ≢ p .dealer
+unfolding judgeOther
+other-facts p i e = eqb-false i (p .dealer) (passed (eqb i (p .dealer)) (refused 10) (taken []) (omega arith) e .0)
+
+pub other-taken : (p : Plan) (i : ℕ) → i ≢ p .dealer → judgeOther p i ≡ taken []
+unfolding judgeOther
+other-taken p i ne = rw (ne-eqb i (p .dealer) ne)
+
 pub board-facts : (p : Plan) (i : ℕ) → judgeBoard p i .number ≡ 0 → (i < p .n) × (i ≢ p .dealer)
 unfolding judgeBoard
 board-facts p i e =
-    let (a, e1) = passed (leb (p .n) i) (refused 9) _ (omega arith) e in
-    let (b, e2) = passed (eqb i (p .dealer)) (refused 10) _ (omega arith) e1 in
-    (leb-false (p .n) i a, eqb-false i (p .dealer) b)
+    let (a, b) = both-taken (judgeNumber p i) (judgeOther p i) e in
+    (number-facts p i a, other-facts p i b)
 
 pub board-taken : (p : Plan) (i : ℕ) → i < p .n → i ≢ p .dealer → judgeBoard p i ≡ taken []
-unfolding judgeBoard
-board-taken p i l ne = rw (lt-leb (p .n) i l, ne-eqb i (p .dealer) ne)
+unfolding judgeBoard andThen
+board-taken p i l ne = rw (number-taken p i l, other-taken p i ne)
+
+-- A board's number is accepted if it passes both.
+pub board-grounds : (r : Record) → isTaken (judgeBoard (r .plan) (r .board)) ≡ (goodNumber r && goodOther r)
+unfolding judgeBoard goodNumber goodOther isTaken andThen
+board-grounds r =
+    let first = judgeNumber (r .plan) (r .board) in
+    cases (eqb (first .number) 0) (λ e. rw e refl) (λ e. rw e e)
 
 pub cells-facts : (p : Plan) (cells : List ℕ) → judgeCells p cells .number ≡ 0 → cellCount (p .n) ≤ length cells
 unfolding judgeCells
@@ -70,49 +92,87 @@ pub cells-taken : (p : Plan) (cells : List ℕ) → cellCount (p .n) ≤ length 
 unfolding judgeCells
 cells-taken p cells h = rw (le-ltb (length cells) (cellCount (p .n)) h)
 
+-- The grounds of 12, one by one: what each test says.
+module _ (r : Record) where
+  pub plan-ground : (goodPlan r ≡ true) ↔ (judged (r .plan) .number ≡ 0)
+  unfolding goodPlan
+  plan-ground = (is-taken (judged (r .plan)), taken-is (judged (r .plan)))
+
+  pub number-ground : (goodNumber r ≡ true) ↔ (r .board < r .plan .n)
+  unfolding goodNumber
+  number-ground =
+      let o = judgeNumber (r .plan) (r .board) in
+      (λ e. number-facts (r .plan) (r .board) (is-taken o e), λ l. taken-is o (ap (λ o. o .number) (number-taken (r .plan) (r .board) l)))
+
+  pub other-ground : (goodOther r ≡ true) ↔ (r .board ≢ r .plan .dealer)
+  unfolding goodOther
+  other-ground =
+      let o = judgeOther (r .plan) (r .board) in
+      (λ e. other-facts (r .plan) (r .board) (is-taken o e), λ ne. taken-is o (ap (λ o. o .number) (other-taken (r .plan) (r .board) ne)))
+
+  pub position-ground : (goodPosition r ≡ true) ↔ Has (r .plan) (r .run) (r .round)
+  unfolding goodPosition
+  position-ground = (has-round (r .plan) (r .run) (r .round), round-has (r .plan) (r .run) (r .round))
+
+  pub marks-ground : (goodMarks r ≡ true) ↔ ((r .detected < 2 ^ r .plan .n) × (r .taken < 2 ^ r .plan .n))
+  unfolding goodMarks
+  marks-ground =
+      let n = r .plan .n in
+      let m = within (r .detected) (boards n) in
+      let t = within (r .taken) (boards n) in (
+        λ e. (within-boards n (r .detected) (and-l m t e), within-boards n (r .taken) (and-r m t e)),
+        λ h. and-true m t (boards-within n (r .detected) (h .0)) (boards-within n (r .taken) (h .1)),
+      )
+
+  pub decision-ground : (goodDecision r ≡ true) ↔ (r .decided ≡ true → r .decision < r .plan .span)
+  unfolding goodDecision
+  decision-ground =
+      let d = not (r .decided) in
+      let small = ltb (r .decision) (r .plan .span) in (
+        λ e x. ⊎-elim (λ y. clash x (not-t (r .decided) y)) (λ y. ltb-true (r .decision) (r .plan .span) y) (or-true d small e),
+        λ h. cases (r .decided)
+            (λ x. or-right d small (lt-ltb (r .decision) (r .plan .span) (h x)))
+            (λ x. or-left d small (true-not (r .decided) x)),
+      )
+
+-- All of them.
 pub good-record : (r : Record) → goodRecord r ≡ true → Good r
-unfolding goodRecord goodMarks goodDecision
+unfolding goodRecord
 good-record r e =
-    let a = isTaken (judged (r .plan)) in
-    let b = isTaken (judgeBoard (r .plan) (r .board)) in
-    let c = hasRound (r .plan) (r .run) (r .round) in
-    let m = within (r .detected) (boards (r .plan .n)) in
-    let t = within (r .taken) (boards (r .plan .n)) in
-    let d = not (r .decided) || ltb (r .decision) (r .plan .span) in
-    let front = and-l (a && b) (c && ((m && t) && d)) e in
-    let back = and-r (a && b) (c && ((m && t) && d)) e in
-    let marks = and-l (m && t) d (and-r c ((m && t) && d) back) in
-    let facts = board-facts (r .plan) (r .board) (is-taken (judgeBoard (r .plan) (r .board)) (and-r a b front)) in
+    let a = goodPlan r in
+    let b = goodNumber r in
+    let c = goodOther r in
+    let k = goodPosition r in
+    let m = goodMarks r in
+    let d = goodDecision r in
+    let front = and-l (a && (b && c)) (k && (m && d)) e in
+    let back = and-r (a && (b && c)) (k && (m && d)) e in
+    let board = and-r a (b && c) front in
+    let fields = and-r k (m && d) back in
+    let marks = marks-ground r .0 (and-l m d fields) in
     record {
-      plan-good = is-taken (judged (r .plan)) (and-l a b front);
-      below = facts .0;
-      other = facts .1;
-      position = has-round (r .plan) (r .run) (r .round) (and-l c ((m && t) && d) back);
-      detected-below = within-boards (r .plan .n) (r .detected) (and-l m t marks);
-      taken-below = within-boards (r .plan .n) (r .taken) (and-r m t marks);
-      decision-below = λ x.
-          ⊎-elim (λ y. clash x (not-t (r .decided) y)) (λ y. ltb-true (r .decision) (r .plan .span) y)
-          (or-true (not (r .decided)) (ltb (r .decision) (r .plan .span)) (and-r (m && t) d (and-r c ((m && t) && d) back)));
+      plan-good = plan-ground r .0 (and-l a (b && c) front);
+      below = number-ground r .0 (and-l b c board);
+      other = other-ground r .0 (and-r b c board);
+      position = position-ground r .0 (and-l k (m && d) back);
+      detected-below = marks .0;
+      taken-below = marks .1;
+      decision-below = decision-ground r .0 (and-r m d fields);
     }
 
 pub record-good : (r : Record) → Good r → goodRecord r ≡ true
-unfolding goodRecord goodMarks goodDecision
+unfolding goodRecord
 record-good r g =
-    let a = isTaken (judged (r .plan)) in
-    let b = isTaken (judgeBoard (r .plan) (r .board)) in
-    let c = hasRound (r .plan) (r .run) (r .round) in
-    let m = within (r .detected) (boards (r .plan .n)) in
-    let t = within (r .taken) (boards (r .plan .n)) in
-    let d = not (r .decided) || ltb (r .decision) (r .plan .span) in
-    and-true (a && b) (c && ((m && t) && d))
-    (and-true a b (taken-is (judged (r .plan)) (g .plan-good))
-    (taken-is (judgeBoard (r .plan) (r .board)) (ap (λ o. o .number) (board-taken (r .plan) (r .board) (g .below) (g .other)))))
-    (and-true c ((m && t) && d) (round-has (r .plan) (r .run) (r .round) (g .position))
-    (and-true (m && t) d
-    (and-true m t (boards-within (r .plan .n) (r .detected) (g .detected-below)) (boards-within (r .plan .n) (r .taken) (g .taken-below)))
-    (cases (r .decided)
-    (λ x. or-right (not (r .decided)) (ltb (r .decision) (r .plan .span)) (lt-ltb (r .decision) (r .plan .span) (g .decision-below x)))
-    (λ x. or-left (not (r .decided)) (ltb (r .decision) (r .plan .span)) (true-not (r .decided) x)))))
+    let a = goodPlan r in
+    let b = goodNumber r in
+    let c = goodOther r in
+    let k = goodPosition r in
+    let m = goodMarks r in
+    let d = goodDecision r in
+    and-true (a && (b && c)) (k && (m && d))
+    (and-true a (b && c) (plan-ground r .1 (g .plan-good)) (and-true b c (number-ground r .1 (g .below)) (other-ground r .1 (g .other))))
+    (and-true k (m && d) (position-ground r .1 (g .position))
+    (and-true m d (marks-ground r .1 (g .detected-below, g .taken-below)) (decision-ground r .1 (g .decision-below))))
 
 pub record-facts : (r : Record) → judgeRecord r .number ≡ 0 → Good r
 unfolding judgeRecord

@@ -13,13 +13,8 @@ use Rattle.sets.proofs.Tests.{or-true, or-left, or-right}
 use Rattle.sets.proofs.Member.{member-insert}
 use Rattle.schedule.specs.declared.rounds.Run.{Run}
 use Rattle.schedule.specs.declared.rounds.Round.{Round}
-use Rattle.theory.specs.Tree as T
 use Rattle.protocol.specs.declared.records.Rule.{Rule}
 use Rattle.protocol.specs.Listing.{join, asSet}
-
--- The list as a test.
-abbrev pub listOf : ℕ → T.Boards
-listOf detected = λ r. member r (asSet detected)
 
 pub insert-below : (n r s : ℕ) → r < n → s < 2 ^ n → insert r s < 2 ^ n
 unfolding insert

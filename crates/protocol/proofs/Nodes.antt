@@ -6,13 +6,16 @@ use mathlib.Core.Logic.{_≢_, ⊎-elim}
 use mathlib.Core.Bool.{Bool, true, false, not, cond}
 use mathlib.Core.List.{List, [], _∷_, List·Memᴰ, List·Memᴰ·head, List·Memᴰ·tail, List·Memᴰ·cases-cons, List·Memᴰ·not-nil, List·Memᴰ·eq-of-singleton}
 use native.Mathlib.Omega.{arith}
-use lib.Dec.{eqb}
+use lib.Dec.{eqb, ltb}
 use lib.ListN.{length}
-use borrow.Author.Tests.{eqb-true, eqb-false, eq-eqb, ne-eqb}
-use Rattle.sets.proofs.Tests.{cases, not-t, true-not}
+use borrow.Author.Tests.{eqb-true, eqb-false, eq-eqb, ne-eqb, lt-ltb, ltb-true}
+use Rattle.sets.proofs.Tests.{cases, not-t, true-not, and-l, and-r, and-true, or-r}
+use Rattle.sets.specs.Structure.{tolerated}
 use Rattle.plan.specs.declared.plan.Plan.{Plan}
+use Rattle.plan.specs.Listed.{listed}
 use Rattle.schedule.specs.declared.rounds.Round.{Round}
-use Rattle.tree.specs.Labels.{Label, occurs, labels, childrenOf}
+use Rattle.schedule.specs.Schedule.{rounds}
+use Rattle.tree.specs.Labels.{Label, occurs, labels, childrenOf, mask}
 use Rattle.tree.proofs.Labels.{ChildBelow, of-child, child-of, root-has, label-has, label-length}
 use Rattle.protocol.specs.Nodes.{filter, internal, nodes, inner, carried, sent}
 
@@ -35,6 +38,23 @@ filter-has f (β ∷ αs) α m t =
     (λ x. rw (subst (λ z. f z ≡ true) x t) (List·Memᴰ·head x))
     (λ m′. let r = filter-has f αs α m′ t in cases (f β) (λ e. rw e (List·Memᴰ·tail r)) (λ e. rw e r))
     (List·Memᴰ·cases-cons m)
+
+-- What is used of `internal`: an internal label has tolerated boards and stands above level R, and for a board that is not on it that is enough.
+pub internal-tol : (p : Plan) (i : ℕ) (α : Label) → internal p i α ≡ true → tolerated (listed p) (mask α) ≡ true
+unfolding internal
+internal-tol p i α e = and-l (tolerated (listed p) (mask α)) (ltb (length α) (rounds p .0)) e
+
+pub internal-above : (p : Plan) (i : ℕ) (α : Label) → internal p i α ≡ true → length α < rounds p .0
+unfolding internal
+internal-above p i α e = ltb-true (length α) (rounds p .0) (and-r (tolerated (listed p) (mask α)) (ltb (length α) (rounds p .0)) e)
+
+pub internal-has : (p : Plan) (i : ℕ) (α : Label) → tolerated (listed p) (mask α) ≡ true → length α < rounds p .0 → occurs i α ≡ false → internal p i α ≡ true
+unfolding internal
+internal-has p i α t l _ = and-true (tolerated (listed p) (mask α)) (ltb (length α) (rounds p .0)) t (lt-ltb (length α) (rounds p .0) l)
+
+-- A label that is internal for one board is so for every board that is not on it.
+pub internal-moves : (p : Plan) (i c : ℕ) (α : Label) → internal p i α ≡ true → occurs c α ≡ false → internal p c α ≡ true
+internal-moves p i c α e out = internal-has p c α (internal-tol p i α e) (internal-above p i α e) out
 
 module _ (p : Plan) (i : ℕ) where
   pub no-node : (α : Label) → List·Memᴰ α (nodes p i 0) → ⊥
@@ -112,14 +132,28 @@ module _ (p : Plan) (i : ℕ) where
       subst (λ x. List·Memᴰ (q ∷ α) (nodes p i x)) (sym z)
       (node-has (k .0 - 2) α q (subst (λ x. List·Memᴰ α (inner p i x)) y w) l a))
 
--- Nodes are the same for all boards.
-pub nodes-same : (p : Plan) (i j k : ℕ) → nodes p i k ≡ nodes p j k
+-- An internal node of one board is one of every board that is not on it.
+pub inner-moves : (p : Plan) (i c k : ℕ) (α : Label) → List·Memᴰ α (inner p i k) → occurs c α ≡ false → List·Memᴰ α (inner p c k)
+unfolding occurs
+inner-moves p i c zero α m out = absurd (no-node p i α (inner-inv p i 0 α m .0))
+inner-moves p i c (suc zero) α m out =
+    let (w, t) = inner-inv p i 1 α m in
+    inner-has p c 1 α (subst (λ z. List·Memᴰ z (nodes p c 1)) (sym (node-root p i α w)) (root-node p c)) (internal-moves p i c α t out)
+inner-moves p i c (suc (suc k)) α m out =
+    let (w, t) = inner-inv p i (suc (suc k)) α m in
+    let (β, v, (q, x, l, a)) = node-inv p i k α w in
+    let above : occurs c β ≡ false = or-r (eqb c q) (occurs c β) (subst (λ z. occurs c z ≡ false) x out) in
+    let node = node-has p c k β q (inner-moves p i c (suc k) β v above) l a in
+    inner-has p c (suc (suc k)) α (subst (λ z. List·Memᴰ z (nodes p c (suc (suc k)))) (sym x) node) (internal-moves p i c α t out)
+
+-- A frame carries the same nodes for all receivers: `internal` does not ask for the board.
+nodes-same : (p : Plan) (i j k : ℕ) → nodes p i k ≡ nodes p j k
 unfolding nodes internal
 nodes-same p i j zero = refl
 nodes-same p i j (suc zero) = refl
 nodes-same p i j (suc (suc k)) = ap (λ αs. childrenOf (p .n) (filter (internal p i) αs)) (nodes-same p i j (suc k))
 
-pub inner-same : (p : Plan) (i j k : ℕ) → inner p i k ≡ inner p j k
+inner-same : (p : Plan) (i j k : ℕ) → inner p i k ≡ inner p j k
 unfolding inner internal
 inner-same p i j k = ap (filter (internal p i)) (nodes-same p i j k)
 

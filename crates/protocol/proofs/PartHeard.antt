@@ -6,22 +6,21 @@ use mathlib.Core.Bool.{true}
 use mathlib.Core.List.{List}
 use native.Mathlib.Omega.{arith}
 use lib.Dec.{ltb}
-use lib.ListN.{length, drop, replicate, length-append, length-replicate, length-drop}
+use lib.ListN.{length}
 use Rattle.sets.proofs.Tests.{cases}
 use Rattle.schedule.specs.Schedule.{rounds, steps, stepRun, stepRound}
-use Rattle.tree.specs.Places.{cellCount}
-use Rattle.tree.specs.Cells.{blank}
 use Rattle.protocol.specs.declared.records.Record.{Record}
 use Rattle.protocol.specs.Records.{runEnded}
 use Rattle.protocol.specs.Rounds.{boardWith, Board, nextRound, convert, close}
 use Rattle.protocol.specs.Calls.{freshRecord, frameOf}
-use Rattle.protocol.specs.Session.{Adversary, Setting, at, takeAll}
-use Rattle.protocol.specs.Lists.{keeper, Sound}
+use Rattle.protocol.specs.Session.{Adversary, Setting, at, takeAll, keeper, Sound}
 use Rattle.protocol.proofs.Judgement.{Good, Open, open-taken}
-use Rattle.protocol.proofs.Reached.{fresh-good, close-good, close-plan, close-length, closing-taken}
+use Rattle.protocol.proofs.Reached.{fresh-good, close-good, close-plan, close-length}
+use Rattle.protocol.proofs.Taken.{closing-taken}
 use Rattle.protocol.proofs.Hearing.{heard-open, heard-length, hear-shape}
 use Rattle.protocol.proofs.Synchronous.{told, canon, standing, keeper-facts, begun-shape, at-start, at-next}
 use Rattle.protocol.proofs.AnyOrder.{part-frame}
+use Rattle.protocol.proofs.Turns.{begun-length}
 
 -- What board i is in step j when it has heard the boards below q.
 pub record MidStep (s : Setting) (a : Adversary) (j i : ℕ) (b : Board) : Type 0 where
@@ -76,9 +75,8 @@ module _ (s : Setting) (a : Adversary) (sound : Sound s) where
   -- Beginning, hearing and closing keep the number of cells.
   pub cells-kept : (j i : ℕ) → keeper s i ≡ true → j ≤ steps (s .plan) → length (at s a j i .cells) ≡ length (s .buffer i)
   cells-kept zero i k l =
-      let c = cellCount (s .plan .n) in
       ap (λ (b : Board). length (b .cells)) (at-start s a i (keeper-facts s a sound i k .0) ∙ begun-shape s a sound i k)
-      ∙ omega (arith, length-append (replicate c blank) (drop c (s .buffer i)), length-replicate c blank, length-drop c (s .buffer i), sound .cells-enough i k)
+      ∙ begun-length (s .plan .n) (s .buffer i) (sound .cells-enough i k)
   cells-kept (suc j) i k l =
       let h = part-heard j i (s .plan .n) k (omega arith) (omega arith) in
       ap (λ (x : Board). length (x .cells)) (at-close j i k l) ∙ close-length _ (h .opened) ∙ h .size ∙ cells-kept j i k (omega arith)

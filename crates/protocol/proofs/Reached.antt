@@ -3,43 +3,40 @@
 use Prim.Native.Nat.{ℕ, zero, suc, _+_, _-_, _≤_, _<_, _^_}
 use mathlib.Core.Path.{_≡_, refl, sym, _∙_, ap, subst}
 use mathlib.Core.Logic.{_≢_, _⊎_, inl, inr, ⊎-elim}
-use mathlib.Core.Bool.{true, false, not, _&&_, cond}
-use mathlib.Core.List.{List, [], _∷_, _++_, List·Memᴰ}
+use mathlib.Core.Bool.{true, false, cond}
+use mathlib.Core.List.{List, _∷_, List·Memᴰ, []}
 use native.Mathlib.Omega.{arith}
 use lib.Dec.{eqb, ltb}
 use lib.ListN.{length, getD, drop, replicate, length-append, length-replicate, length-drop, getD-replicate, List·getD-append}
 use lib.Pow.{pow-pos}
 use borrow.Author.Tests.{eqb-false, ltb-true}
-use Rattle.codec.specs.Codec.{decode}
 use Rattle.sets.specs.Sets.{member, insert}
-use Rattle.sets.proofs.Tests.{cases, clash, and-l, or-l, or-r}
+use Rattle.sets.proofs.Tests.{cases, clash, or-l, or-r}
 use Rattle.sets.proofs.Member.{member-insert}
+use Rattle.refusals.proofs.Outcomes.{both-taken}
 use Rattle.plan.specs.declared.plan.Plan.{Plan}
-use Rattle.schedule.specs.declared.rounds.Round.{Round}
-use Rattle.schedule.specs.Schedule.{rounds, runs}
-use Rattle.refusals.specs.Outcome.{taken, refused}
 use Rattle.plan.specs.Calls.{judged}
+use Rattle.schedule.specs.Schedule.{rounds, runs}
 use Rattle.schedule.proofs.Levels.{rounds-pos, runs-pos}
-use Rattle.refusals.proofs.Outcomes.{both-taken, passed}
 use Rattle.schedule.proofs.Steps.{later-rounds}
 use Rattle.tree.specs.Labels.{Label, last}
 use Rattle.tree.specs.Places.{cellCount, place}
 use Rattle.tree.specs.Cells.{blank, cellAt}
 use Rattle.tree.proofs.Labels.{label-length, no-label, root-inv, root-has}
 use Rattle.tree.proofs.Places.{place-lt, some-cell, place-levels}
-use Rattle.protocol.specs.Nodes.{nodes, sent, due}
+use Rattle.protocol.specs.Nodes.{nodes, sent}
 use Rattle.protocol.specs.Detection.{Scan, resolveRoot}
 use Rattle.protocol.specs.Records.{runEnded}
-use Rattle.protocol.specs.Rounds.{boardWith, Board, counted, receive, gather, nextRound, convert, close, rootOnly}
-use Rattle.protocol.specs.Calls.{isTaken, judgeBoard, judgeCells, judgeOpen, judgeBeginning, beginning, freshRecord, judgeReceiving, taking, receiving, closing}
-use Rattle.protocol.specs.Lists.{Call, receives, sends, closes, decides, leaves, caller, step, after}
+use Rattle.protocol.specs.Rounds.{boardWith, Board, counted, receive, gather, nextRound, convert, close, rootOnly, cleared}
+use Rattle.protocol.specs.Calls.{isTaken, judgeBoard, judgeCells, judgeOpen, judgeBeginning, beginning, freshRecord, judgeReceiving, taking, closing}
 use Rattle.protocol.proofs.Nodes.{sent-node, node-label, node-length, root-node}
 use Rattle.protocol.proofs.Fill.{IsLabel, fill-other, fill-length}
 use Rattle.protocol.proofs.Local.{gather-outside, gather-length}
 use Rattle.protocol.proofs.Judgement.{is-taken, taken-is, plan-facts, Good, good-dealer, Open, open-facts, cells-facts, board-facts}
 use Rattle.protocol.proofs.Listing.{insert-below}
 use Rattle.protocol.proofs.Bounds.{gather-below, levels-below, root-small}
-use Rattle.protocol.proofs.Turns.{frame-stored, decides-root}
+use Rattle.protocol.proofs.Turns.{frame-stored, decides-root, begun-length, begun-blank}
+use Rattle.protocol.proofs.Taken.{taking-taken, taking-refused, closing-taken, due-sender, receiving-facts, closing-refused}
 
 -- A begun board's record is good.
 pub fresh-good : (p : Plan) (i : ℕ) → judged p .number ≡ 0 → i < p .n → i ≢ p .dealer → Good (freshRecord p i)
@@ -152,13 +149,10 @@ Vacant b = (l : b .rec .plan .dealer < b .rec .plan .n) (k : ℕ) (α : Label) �
     → cellAt (b .rec .plan .n) (b .cells) α ≡ blank
 
 pub fresh-vacant : (p : Plan) (i : ℕ) (cells : List ℕ)
-    → Vacant (boardWith (freshRecord p i) (replicate (cellCount (p .n)) blank ++ drop (cellCount (p .n)) cells))
+    → Vacant (boardWith (freshRecord p i) (cleared (p .n) cells))
 unfolding cellAt freshRecord
 fresh-vacant p i cells l k α m v =
-    let here = place-lt (p .n) (p .dealer) k α l m in
-    List·getD-append (replicate (cellCount (p .n)) blank) (drop (cellCount (p .n)) cells) blank (place (p .n) α)
-    (omega (arith, length-replicate (cellCount (p .n)) blank))
-    ∙ getD-replicate (cellCount (p .n)) (place (p .n) α) blank blank here
+    begun-blank (p .n) cells (place (p .n) α) (place-lt (p .n) (p .dealer) k α l m)
 
 -- A label of level k is no node of another level.
 pub other-level : (p : Plan) (l : p .dealer < p .n) (i k a : ℕ) (α : Label) → IsLabel p l k α → List·Memᴰ α (nodes p i a) → k ≡ a
@@ -305,31 +299,6 @@ pub record Reached (b : Board) : Type 0 where
   pub room : cellCount (b .rec .plan .n) ≤ length (b .cells)
   pub vacant : Vacant b
 
--- What a handing in that is taken has passed.
-pub receiving-facts : (b : Board) (q : ℕ) → judgeReceiving b q .number ≡ 0
-    → Open b × (due (b .rec .plan) q (b .rec .board) (b .rec .round) ≡ true) × (member q (b .rec .taken) ≡ false)
-unfolding judgeReceiving
-receiving-facts b q e =
-    let r = b .rec in
-    let (e1, e2) = both-taken (judgeOpen b) _ e in
-    let d = due (r .plan) q (r .board) (r .round) in
-    let on : d ≡ true = cases d (λ x. x) (λ x. absurd (let z : 14 ≡ 0 = rw x at e2 in let y : ⊥ = omega arith in y)) in
-    (open-facts b e1, on, passed (member q (r .taken)) (refused 15) (taken []) (omega arith) (rw on at e2) .0)
-
-pub due-sender : (p : Plan) (q i : ℕ) (k : Round) → due p q i k ≡ true → q < p .n
-unfolding due
-due-sender p q i k e =
-    let rest = not (eqb q i) && (not (eqb i (p .dealer)) && ltb 0 (length (sent p q i k))) in
-    ltb-true q (p .n) (and-l (ltb q (p .n)) (ltb i (p .n)) (and-l (ltb q (p .n) && ltb i (p .n)) rest e))
-
-pub taking-taken : (b : Board) (q : ℕ) (vs : List ℕ) → judgeReceiving b q .number ≡ 0 → taking b q vs .board ≡ receive q vs b
-unfolding taking
-taking-taken b q vs e = rw (taken-is (judgeReceiving b q) e)
-
-pub taking-refused : (b : Board) (q : ℕ) (vs : List ℕ) → isTaken (judgeReceiving b q) ≡ false → taking b q vs .board ≡ b
-unfolding taking
-taking-refused b q vs e = rw e
-
 pub reached-taking : (b : Board) (q : ℕ) (vs : List ℕ) → Reached b → Reached (taking b q vs .board)
 reached-taking b q vs h =
     cases (isTaken (judgeReceiving b q))
@@ -342,14 +311,6 @@ reached-taking b q vs h =
       vacant = receive-vacant q vs b o lq (h .vacant);
     }))
     (λ e. rw (taking-refused b q vs e) h)
-
-pub closing-taken : (b : Board) → judgeOpen b .number ≡ 0 → closing b .board ≡ close b
-unfolding closing
-closing-taken b e = rw (taken-is (judgeOpen b) e)
-
-pub closing-refused : (b : Board) → isTaken (judgeOpen b) ≡ false → closing b .board ≡ b
-unfolding closing
-closing-refused b e = rw e
 
 -- A closing keeps the plan.
 pub close-plan : (b : Board) → close b .rec .plan ≡ b .rec .plan
@@ -377,21 +338,6 @@ reached-begun p i cells e =
     let room = cells-facts p cells e4 in
     rw (taken-is (judgeBeginning p i cells) e) (record {
       good = fresh-good p i e1 l ne;
-      room = omega (arith, length-append (replicate (cellCount (p .n)) blank) (drop (cellCount (p .n)) cells), length-replicate (cellCount (p .n)) blank);
+      room = rw (begun-length (p .n) cells room) room;
       vacant = fresh-vacant p i cells;
     })
-
--- After any calls.
-pub reached-after : (calls : List Call) (w : ℕ → Board) (i : ℕ) → Reached (w i) → Reached (after w calls i)
-unfolding after
-reached-after [] w i h = h
-reached-after (c ∷ calls) w i h = reached-after calls (step w c) i (one c)
-  where
-    done : (c : Call) → Reached (leaves c (w i))
-    done (receives j q f) = unfold leaves receiving in reached-taking (w i) q (decode f) h
-    done (sends j out) = unfold leaves in h
-    done (closes j) = unfold leaves in reached-closing (w i) h
-    done (decides j) = unfold leaves in h
-
-    one : (c : Call) → Reached (step w c i)
-    one c = unfold step in cases (eqb i (caller c)) (λ e. rw e (done c)) (λ e. rw e h)

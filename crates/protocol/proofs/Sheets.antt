@@ -27,7 +27,7 @@ use Rattle.protocol.specs.Limits.{cellsNeeded}
 use Rattle.protocol.specs.declared.head.Head.{Head}
 use Rattle.protocol.specs.Sheet.{Line, lineBytes, setsPlace, headLength, headBoards, headCount, headSets, headSettings, headFaulty, headWord, headOf, judgeHead, Frame, frameLine, goodFrame, Reading, wrongAt, refusedReading, addFrame, readFrames, readHead, readLines, lines, reading}
 use Rattle.protocol.specs.Playing.{part, setting}
-use Rattle.protocol.specs.Lists.{keeper, Sound}
+use Rattle.protocol.specs.Session.{keeper, Sound}
 
 -- What an accepted head meets.
 pub record GoodHead (h : Head) : Type 0 where

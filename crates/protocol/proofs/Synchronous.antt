@@ -4,36 +4,36 @@ use Prim.Native.Nat.{ℕ, zero, suc, _+_, _-_, _*_, _≤_, _<_}
 use mathlib.Core.Path.{_≡_, refl, sym, _∙_, ap, ap₂, subst}
 use mathlib.Core.Logic.{_≢_}
 use mathlib.Core.Bool.{true, false, not, _&&_}
-use mathlib.Core.List.{List, _++_}
+use mathlib.Core.List.{List}
 use mathlib.Core.Option.{Option}
 use native.Mathlib.Omega.{arith}
 use native.Mathlib.Nat.{zero-mul}
 use lib.Dec.{eqb, ltb}
-use lib.ListN.{length, getD, drop, replicate, length-append, length-replicate}
+use lib.ListN.{length, getD}
 use borrow.Author.Tests.{eqb-false, ne-eqb, ltb-true, ltb-false, lt-ltb, le-ltb, eqb-true}
 use Rattle.sets.specs.Sets.{member}
 use Rattle.sets.proofs.Tests.{cases, and-l, and-r, not-t}
+use Rattle.refusals.specs.Outcome.{taken, andThen}
+use Rattle.refusals.proofs.Outcomes.{taken-first}
 use Rattle.plan.specs.declared.plan.Plan.{Plan}
+use Rattle.plan.specs.Calls.{judged}
 use Rattle.schedule.specs.declared.rounds.Run.{Run}
 use Rattle.schedule.specs.declared.rounds.Round.{Round}
 use Rattle.schedule.specs.Schedule.{rounds, runs, steps, step, stepRun, stepRound}
-use Rattle.refusals.specs.Outcome.{taken, andThen}
-use Rattle.plan.specs.Calls.{judged}
 use Rattle.schedule.proofs.Steps.{Has, run-split, run-of-step, round-of-step, step-has, step-of-round, later-rounds}
-use Rattle.tree.specs.Places.{cellCount}
-use Rattle.tree.specs.Cells.{blank}
-use Rattle.protocol.specs.declared.records.Record.{Record}
-use Rattle.protocol.specs.Records.{runEnded, withTaken}
-use Rattle.protocol.specs.Rounds.{boardWith, Board, gather, nextRound, convert, close}
-use Rattle.protocol.specs.Calls.{judgeBoard, judgeBeginning, freshRecord, beginning, closing}
-use Rattle.protocol.specs.Session.{table, Adversary, Setting, Boards, nobody, boardAt, begun, hears, hearAll, session, at, takeAll}
-use Rattle.protocol.specs.Lists.{keeper, Sound}
-use Rattle.protocol.proofs.Judgement.{Good, Open, open-taken, board-taken, cells-taken, taken-is}
-use Rattle.protocol.proofs.Reached.{closing-taken, fresh-good, close-good, close-length}
-use Rattle.refusals.proofs.Outcomes.{taken-first}
 use Rattle.schedule.proofs.Levels.{rounds-pos, runs-pos}
+use Rattle.tree.specs.Places.{cellCount}
+use Rattle.protocol.specs.declared.records.Record.{Record}
+use Rattle.protocol.specs.Records.{standingAt, runEnded, withTaken}
+use Rattle.protocol.specs.Rounds.{boardWith, Board, gather, nextRound, convert, close, cleared}
+use Rattle.protocol.specs.Calls.{judgeBoard, judgeBeginning, freshRecord, beginning, closing}
+use Rattle.protocol.specs.Session.{table, Adversary, Setting, Boards, nobody, boardAt, begun, hears, hearAll, session, at, takeAll, keeper, Sound}
+use Rattle.protocol.proofs.Judgement.{Good, Open, open-taken, board-taken, cells-taken, taken-is}
+use Rattle.protocol.proofs.Taken.{closing-taken}
+use Rattle.protocol.proofs.Reached.{fresh-good, close-good, close-length}
 use Rattle.protocol.proofs.Hearing.{marks, heardCells, heard-open, hear-shape}
 use Rattle.protocol.specs.Detection.{detectLevels}
+use Rattle.protocol.proofs.Turns.{begun-length}
 
 pub table-at : {A : Type 0} (f : ℕ → A) (k i c : ℕ) (x : A) → c < k → getD (table f i k) c x ≡ f (i + c)
 unfolding table
@@ -108,20 +108,7 @@ module _ (s : Setting) (a : Adversary) (sound : Sound s) where
 
   -- The record of board i in step j, counted from 0, with a list.
   abbrev pub canon : ℕ → ℕ → ℕ → Record
-  canon i j detected = record {
-    plan = plan;
-    board = i;
-    run = stepRun plan (suc j);
-    round = stepRound plan (suc j);
-    detected = detected;
-    taken = 0;
-    decided = false;
-    decision = 0;
-  }
-
-  -- A record in its run and round.
-  record-of : ℕ → Run → Round → ℕ → Record
-  record-of i t q detected = record { plan = plan; board = i; run = t; round = q; detected = detected; taken = 0; decided = false; decision = 0 }
+  canon i j detected = standingAt plan i (stepRun plan (suc j)) (stepRound plan (suc j)) detected
 
   pub record Standing (j i : ℕ) : Type 0 where
     pub shape : at s a j i .rec ≡ canon i j (at s a j i .rec .detected)
@@ -139,7 +126,7 @@ module _ (s : Setting) (a : Adversary) (sound : Sound s) where
 
   -- Board i as its beginning left it.
   pub begun-shape : (i : ℕ) → keeper s i ≡ true
-      → begun s i ≡ boardWith (freshRecord plan i) (replicate (cellCount (plan .n)) blank ++ drop (cellCount (plan .n)) (s .buffer i))
+      → begun s i ≡ boardWith (freshRecord plan i) (cleared (plan .n) (s .buffer i))
   unfolding begun beginning judgeBeginning andThen
   begun-shape i k =
       let (l, _, ne) = keeper-facts i k in
@@ -164,18 +151,18 @@ module _ (s : Setting) (a : Adversary) (sound : Sound s) where
       (ap (stepRun plan) (sym z) ∙ run-of-step plan t k h, ap (stepRound plan) (sym z) ∙ round-of-step plan t k h)
 
   pub standing-start : (i : ℕ) → keeper s i ≡ true → Standing 0 i
-  unfolding freshRecord record-of
+  unfolding freshRecord
   standing-start i k =
       let (l, _, ne) = keeper-facts i k in
       let e = at-start s a i l ∙ begun-shape i k in
-      let cells = replicate (cellCount (plan .n)) blank ++ drop (cellCount (plan .n)) (s .buffer i) in
+      let cells = cleared (plan .n) (s .buffer i) in
       let b : Board = boardWith (freshRecord plan i) cells in
       record {
         shape = subst (λ x. x .rec ≡ canon i 0 (x .rec .detected)) (sym e)
-            (ap₂ (λ (t : Run) (q : Round). record-of i t q 0) (sym (first-position .0)) (sym (first-position .1)));
+            (ap₂ (λ (t : Run) (q : Round). standingAt plan i t q 0) (sym (first-position .0)) (sym (first-position .1)));
         good = subst (λ x. Good (x .rec)) (sym e) (fresh-good plan i (sound .accepted) l ne);
         room = subst (λ x. cellCount (plan .n) ≤ length (x .cells)) (sym e)
-            (omega (arith, length-append (replicate (cellCount (plan .n)) blank) (drop (cellCount (plan .n)) (s .buffer i)), length-replicate (cellCount (plan .n)) blank));
+            (rw (begun-length (plan .n) (s .buffer i) (sound .cells-enough i k)) (sound .cells-enough i k));
       }
 
   -- The board in step j when it has heard all frames.
@@ -224,8 +211,8 @@ module _ (s : Setting) (a : Adversary) (sound : Sound s) where
     unfolding close
     close-last l = rw (le-ltb (stepRound plan (suc j) .0) (rounds plan .0) l)
 
-    same-record : (detected : ℕ) {t t′ : Run} {q q′ : Round} → t ≡ t′ → q ≡ q′ → record-of i t q detected ≡ record-of i t′ q′ detected
-    same-record detected e f = ap₂ (λ (t : Run) (q : Round). record-of i t q detected) e f
+    same-record : (detected : ℕ) {t t′ : Run} {q q′ : Round} → t ≡ t′ → q ≡ q′ → standingAt plan i t q detected ≡ standingAt plan i t′ q′ detected
+    same-record detected e f = ap₂ (λ (t : Run) (q : Round). standingAt plan i t q detected) e f
 
     -- Where a step follows the last round of a run, so does a run.
     pub more-runs : suc j < steps plan → stepRound plan (suc j) .0 ≡ rounds plan .0 → stepRun plan (suc j) .0 < runs plan .0
@@ -238,7 +225,7 @@ module _ (s : Setting) (a : Adversary) (sound : Sound s) where
         (λ e. let ne : stepRun plan (suc j) .0 ≢ runs plan .0 = eqb-false (stepRun plan (suc j) .0) (runs plan .0) e in omega (arith, position .run-high))
 
     pub next-shape : suc j < steps plan → close ready .rec ≡ canon i (suc j) (close ready .rec .detected)
-    unfolding nextRound convert runEnded record-of
+    unfolding nextRound convert runEnded
     next-shape l =
         let t = stepRun plan (suc j) in
         let q = stepRound plan (suc j) in

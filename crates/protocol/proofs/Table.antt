@@ -22,7 +22,7 @@ use Rattle.protocol.specs.Listing.{join}
 use Rattle.protocol.specs.Detection.{vote, tabulate, resolve, resolveRoot, explained, byCell, byResolving, passes, maskBoard, detectG, detectAllG, detectC, detectAllC, detectLevels}
 use Rattle.protocol.specs.Records.{runEnded}
 use Rattle.protocol.specs.Rounds.{fill, counted, receive, fillMissing, copyOwn, gather, rootOnly, nextRound, convert, close}
-use Rattle.protocol.specs.Calls.{isTaken, judgeBoard, judgeCells, goodMarks, goodDecision, goodRecord, judgeRecord, judgeOpen, freshRecord, voidRecord, judgeBeginning, beginning, dealing, judgeReceiving, taking, receiving, frameOf, wireOf, judgeSending, sending, closedValues, closing, deciding}
+use Rattle.protocol.specs.Calls.{isTaken, judgeNumber, judgeOther, judgeBoard, judgeCells, goodPlan, goodNumber, goodOther, goodPosition, goodMarks, goodDecision, goodRecord, judgeRecord, judgeOpen, freshRecord, voidRecord, judgeBeginning, beginning, dealing, judgeReceiving, taking, receiving, frameOf, wireOf, judgeSending, sending, closedValues, closing, deciding}
 use Rattle.protocol.specs.Session.{table, nobody, boardAt, begun, hears, handIn, takeAll, hearAll, session, at}
 use Rattle.protocol.specs.Sheet.{prepend, lines, lineBytes, headOf, judgeHead, frameLine, earlier, rises, goodFrame, wrongAt, refusedReading, addFrame, readFrames, readHead, readLines, reading}
 use Rattle.hex.specs.Hex.{digit, joinByte, bytesOf, hexDigit, hexByte, hexBytes}
@@ -30,5 +30,5 @@ use Rattle.protocol.specs.Playing.{findFrame, decoded, sheetAdversary, p
 use Rattle.protocol.specs.Cases.{sameList, nodeCount, lentCells, lentOut, played, isAccepted, holds, allHold, example1, head7, head9, dealerLine, liar9, printedLine, decidedPart, alone, table as table′}
 
 pub table-holds : allHold table′ ≡ true
-unfolding encode decode numberAt first any count member union insert within boards setOf size holder place isSome tolerated strays covers thirdPlace secondPlace firstPlace covered places refusal verdict listed largest height isCut rounds ceilDiv runs firstRound hasRound steps step stepRun stepRound covering admitting andThen isDepth judgeSettings planning voidPlan planOn planned judged occurs mask last childrenFrom children childrenOf labels labelAt levelSize levelStart cellCount sizeWithin startWithin countWithin ordinal rank outsideBelow childIndex place′ blank cellAt store default value read filter internal nodes inner carried sent due frame only same vote tabulate resolve resolveRoot explained byCell byResolving join passes maskBoard detectG detectAllG detectC detectAllC detectLevels fill counted receive fillMissing copyOwn gather rootOnly nextRound convert runEnded close isTaken judgeBoard judgeCells goodMarks goodDecision goodRecord judgeRecord judgeOpen freshRecord voidRecord judgeBeginning beginning dealing judgeReceiving taking receiving frameOf wireOf judgeSending sending closedValues closing deciding table nobody boardAt begun hears handIn takeAll hearAll session at prepend lines digit joinByte bytesOf lineBytes headOf judgeHead frameLine earlier rises goodFrame wrongAt refusedReading addFrame readFrames readHead readLines reading findFrame decoded sheetAdversary part replacePart setting finalBoards hexDigit hexByte hexBytes hexValue printed boardLine printBoards finalCells refusedPlay playHead playing refusalText benchPrints sameList nodeCount lentCells lentOut played isAccepted holds allHold example1 head7 head9 dealerLine liar9 printedLine decidedPart alone table′
+unfolding encode decode numberAt first any count member union insert within boards setOf size holder place isSome tolerated strays covers thirdPlace secondPlace firstPlace covered places refusal verdict listed largest height isCut rounds ceilDiv runs firstRound hasRound steps step stepRun stepRound covering admitting andThen isDepth judgeSettings planning voidPlan planOn planned judged occurs mask last childrenFrom children childrenOf labels labelAt levelSize levelStart cellCount sizeWithin startWithin countWithin ordinal rank outsideBelow childIndex place′ blank cellAt store default value read filter internal nodes inner carried sent due frame only same vote tabulate resolve resolveRoot explained byCell byResolving join passes maskBoard detectG detectAllG detectC detectAllC detectLevels fill counted receive fillMissing copyOwn gather rootOnly nextRound convert runEnded close isTaken judgeNumber judgeOther judgeBoard judgeCells goodPlan goodNumber goodOther goodPosition goodMarks goodDecision goodRecord judgeRecord judgeOpen freshRecord voidRecord judgeBeginning beginning dealing judgeReceiving taking receiving frameOf wireOf judgeSending sending closedValues closing deciding table nobody boardAt begun hears handIn takeAll hearAll session at prepend lines digit joinByte bytesOf lineBytes headOf judgeHead frameLine earlier rises goodFrame wrongAt refusedReading addFrame readFrames readHead readLines reading findFrame decoded sheetAdversary part replacePart setting finalBoards hexDigit hexByte hexBytes hexValue printed boardLine printBoards finalCells refusedPlay playHead playing refusalText benchPrints sameList nodeCount lentCells lentOut played isAccepted holds allHold example1 head7 head9 dealerLine liar9 printedLine decidedPart alone table′
 table-holds = refl

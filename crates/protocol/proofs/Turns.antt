@@ -1,18 +1,53 @@
--- What one frame, one missing frame and the end of a run do to a board.
+-- The sentences of 01 about one board, each as one short law: what a beginning, a frame, a listed sender, a missing frame, the board's own cells
+-- and the end of a run do to a board. They are the first proofs to fail where a definition says something else.
 -- Assumes nothing.
-use Prim.Native.Nat.{ℕ, suc}
-use mathlib.Core.Path.{_≡_, refl}
+use Prim.Native.Nat.{ℕ, suc, _-_, _≤_, _<_}
+use mathlib.Core.Path.{_≡_, refl, _∙_}
 use mathlib.Core.Bool.{true}
-use mathlib.Core.List.{List}
+use mathlib.Core.List.{List, []}
+use native.Mathlib.Omega.{arith}
 use lib.Dec.{eqb}
+use lib.ListN.{length, getD, length-append, length-drop, List·getD-append, length-replicate, getD-replicate, replicate, drop}
 use Rattle.sets.specs.Sets.{member}
 use Rattle.sets.proofs.Tests.{cases}
-use Rattle.schedule.specs.Schedule.{runs}
+use Rattle.plan.specs.declared.plan.Plan.{Plan}
+use Rattle.schedule.specs.Schedule.{runs, rounds}
+use Rattle.schedule.specs.declared.rounds.Round.{Round}
+use Rattle.tree.specs.Labels.{Label}
+use Rattle.tree.specs.Places.{cellCount}
+use Rattle.tree.specs.Cells.{blank}
 use Rattle.protocol.specs.declared.records.Record.{Record}
-use Rattle.protocol.specs.Nodes.{sent, due}
-use Rattle.protocol.specs.Detection.{Scan, resolveRoot}
+use Rattle.protocol.specs.Nodes.{sent, due, frame}
+use Rattle.protocol.specs.Detection.{Scan, resolveRoot, detectLevels}
 use Rattle.protocol.specs.Records.{runEnded}
-use Rattle.protocol.specs.Rounds.{Board, fill, counted, receive, fillMissing, convert}
+use Rattle.protocol.specs.Rounds.{Board, fill, counted, receive, fillMissing, convert, copyOwn, cleared}
+use Rattle.protocol.specs.Listing.{asSet}
+
+-- 01: "A place with no value yet, or no node, holds FF".
+pub begun-blank : (n : ℕ) (cells : List ℕ) (x : ℕ) → x < cellCount n → getD (cleared n cells) x blank ≡ blank
+begun-blank n cells x l =
+    List·getD-append (replicate (cellCount n) blank) (drop (cellCount n) cells) blank x (omega (arith, length-replicate (cellCount n) blank))
+    ∙ getD-replicate (cellCount n) x blank blank l
+
+-- A beginning keeps the number of cells.
+pub begun-length : (n : ℕ) (cells : List ℕ) → cellCount n ≤ length cells → length (cleared n cells) ≡ length cells
+begun-length n cells h =
+    omega (
+      arith,
+      length-append (replicate (cellCount n) blank) (drop (cellCount n) cells),
+      length-replicate (cellCount n) blank,
+      length-drop (cellCount n) cells,
+    )
+
+-- 01: "a frame from a listed board" counts as 0 throughout: it has no values.
+pub listed-silent : (detected q : ℕ) (αs : List Label) (f : List ℕ) → member q (asSet detected) ≡ true → counted detected q αs f ≡ []
+unfolding counted
+listed-silent detected q αs f on = cases (eqb (length f) (length αs)) (λ e. rw (e, on) refl) (λ e. rw e refl)
+
+-- 01: "the board copies its own cells to its own child nodes".
+pub own-copied : (p : Plan) (i : ℕ) (k : Round) (cells : List ℕ) → copyOwn p i k cells ≡ fill p i (sent p i i k) (frame p i i k cells) cells
+unfolding copyOwn
+own-copied p i k cells = refl
 
 -- A frame that is taken goes to the children of its sender.
 pub frame-stored : (q : ℕ) (f : List ℕ) (b : Board)
@@ -26,6 +61,12 @@ unfolding fillMissing
 taken-stays r k cells m = cases (due (r .plan) k (r .board) (r .round)) (λ d. rw (d, m) refl) (λ d. rw d refl)
 
 module _ (b : Board) (s : Scan) where
+  -- 01: "L stays": a run ends with the list that rule G left, and whom rule C adds.
+  pub list-stays : let r = b .rec in
+      convert b s .rec .detected ≡ detectLevels (r .plan) (r .board) (r .run) (r .round) (s .cells) (rounds (r .plan) .0 - 1) (s .detected)
+  unfolding convert runEnded
+  list-stays = refl
+
   -- A board decides as the last run ends, and on the root.
   pub decides-last : convert b s .rec .decided ≡ eqb (b .rec .run .0) (runs (b .rec .plan) .0)
   unfolding convert runEnded

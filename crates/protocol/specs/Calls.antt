@@ -32,16 +32,34 @@ pub record Output : Type 0 where
 unfoldable pub isTaken : Outcome → Bool
 isTaken o = eqb (o .number) 0
 
--- 9 and 10: the board's number.
+-- 9: "number not below n"; 10: "it is d".
+unfoldable pub judgeNumber : Plan → ℕ → Outcome
+judgeNumber p i = cond (leb (p .n) i) (refused 9) (taken [])
+
+unfoldable pub judgeOther : Plan → ℕ → Outcome
+judgeOther p i = cond (eqb i (p .dealer)) (refused 10) (taken [])
+
 unfoldable pub judgeBoard : Plan → ℕ → Outcome
-judgeBoard p i = cond (leb (p .n) i) (refused 9) (cond (eqb i (p .dealer)) (refused 10) (taken []))
+judgeBoard p i = andThen (judgeNumber p i) (judgeOther p i)
 
 -- 11: "cells too few".
 unfoldable pub judgeCells : Plan → List ℕ → Outcome
 judgeCells p cells = cond (ltb (length cells) (cellCount (p .n))) (refused 11) (taken [])
 
 -- 12: "a record whose plan or board would meet 1 to 10, whose run or round the plan lacks, that lists or marks board n or above,
--- or that is decided with a decision not below m".
+-- or that is decided with a decision not below m". Each ground is one test.
+unfoldable pub goodPlan : Record → Bool
+goodPlan r = isTaken (judged (r .plan))
+
+unfoldable pub goodNumber : Record → Bool
+goodNumber r = isTaken (judgeNumber (r .plan) (r .board))
+
+unfoldable pub goodOther : Record → Bool
+goodOther r = isTaken (judgeOther (r .plan) (r .board))
+
+unfoldable pub goodPosition : Record → Bool
+goodPosition r = hasRound (r .plan) (r .run) (r .round)
+
 unfoldable pub goodMarks : Record → Bool
 goodMarks r = within (asSet (r .detected)) (boards (r .plan .n)) && within (r .taken) (boards (r .plan .n))
 
@@ -49,18 +67,18 @@ unfoldable pub goodDecision : Record → Bool
 goodDecision r = not (r .decided) || ltb (r .decision) (r .plan .span)
 
 unfoldable pub goodRecord : Record → Bool
-goodRecord r =
-    (isTaken (judged (r .plan)) && isTaken (judgeBoard (r .plan) (r .board)))
-    && (hasRound (r .plan) (r .run) (r .round) && (goodMarks r && goodDecision r))
+goodRecord r = (goodPlan r && (goodNumber r && goodOther r)) && (goodPosition r && (goodMarks r && goodDecision r))
 
 unfoldable pub judgeRecord : Record → Outcome
 judgeRecord r = cond (goodRecord r) (taken []) (refused 12)
 
+-- 13: "already decided".
+abbrev pub judgeDecided : Bool → Outcome
+judgeDecided decided = cond decided (refused 13) (taken [])
+
 -- 12, 11, 13: what handing in, writing and closing judge first.
 unfoldable pub judgeOpen : Board → Outcome
-judgeOpen b =
-    andThen (judgeRecord (b .rec))
-    (andThen (judgeCells (b .rec .plan) (b .cells)) (cond (b .rec .decided) (refused 13) (taken [])))
+judgeOpen b = andThen (judgeRecord (b .rec)) (andThen (judgeCells (b .rec .plan) (b .cells)) (judgeDecided (b .rec .decided)))
 
 -- The record of a board that begins: run 1, round 1, nothing listed or marked.
 unfoldable pub freshRecord : Plan → ℕ → Record

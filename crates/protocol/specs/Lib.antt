@@ -9,8 +9,4 @@ pub mod Calls
 pub mod Session
 pub mod Sheet
 pub mod Playing
-pub mod Lists
-pub mod Claims
-pub mod Printed
 pub mod Cases
-pub mod Example

@@ -1,12 +1,18 @@
--- The synchronous session: in each step every board hears all frames of the round and closes it.
-use Prim.Native.Nat.{ℕ, zero, suc}
-use mathlib.Core.Bool.{cond}
-use mathlib.Core.List.{List, [], _∷_}
+-- The synchronous session: in each step every board hears all frames of the round and closes it. Which boards keep cells in it, and what is asked
+-- of its setting.
+use Prim.Native.Nat.{ℕ, zero, suc, _≤_, _<_}
+use mathlib.Core.Bool.{cond, Bool, true, false, not, _&&_}
+use mathlib.Core.List.{List, _∷_, []}
 use mathlib.Core.Option.{Option, some, none}
-use lib.Dec.{eqb}
-use lib.ListN.{getD}
+use mathlib.Core.Path.{_≡_}
+use lib.Dec.{eqb, ltb}
+use lib.ListN.{getD, length}
 use Rattle.sets.specs.Sets.{member}
+use Rattle.sets.specs.Structure.{tolerated}
 use Rattle.plan.specs.declared.plan.Plan.{Plan}
+use Rattle.plan.specs.Calls.{judged}
+use Rattle.plan.specs.Listed.{listed}
+use Rattle.tree.specs.Places.{cellCount}
 use Rattle.protocol.specs.Rounds.{boardWith, Board}
 use Rattle.protocol.specs.Calls.{voidRecord, beginning, taking, frameOf, closing}
 
@@ -68,3 +74,14 @@ session s a (suc j) =
 -- Board i after j steps.
 unfoldable pub at : Setting → Adversary → ℕ → ℕ → Board
 at s a j i = boardAt (session s a j) i
+
+-- 01: "Each board outside F except d has its own record and cells, as its beginning on that plan left them".
+unfoldable pub keeper : Setting → ℕ → Bool
+keeper s i = ltb i (s .plan .n) && (not (member i (s .faulty)) && not (eqb i (s .plan .dealer)))
+
+-- 01: "The plan is accepted and F is tolerated. .. If d is outside F, it has one value below m". Lent cells are long enough.
+pub record Sound (s : Setting) : Type 0 where
+  pub accepted : judged (s .plan) .number ≡ 0
+  pub tolerable : tolerated (listed (s .plan)) (s .faulty) ≡ true
+  pub word-below : member (s .plan .dealer) (s .faulty) ≡ false → s .word < s .plan .span
+  pub cells-enough : (i : ℕ) → keeper s i ≡ true → cellCount (s .plan .n) ≤ length (s .buffer i)

@@ -17,8 +17,7 @@ use Rattle.tree.specs.Cells.{blank}
 use Rattle.tree.proofs.Masks.{mask-member}
 use Rattle.protocol.specs.Nodes.{read, internal}
 use Rattle.protocol.specs.Detection.{tabulate, resolve, resolveRoot}
-use Rattle.protocol.proofs.Bounds.{Small, resolve-small}
-use Rattle.protocol.proofs.Instance.{tabulate-at}
+use Rattle.protocol.proofs.Bounds.{Small, resolve-small, tabulate-at}
 use Rattle.voting.specs.Worth.{worth, table}
 use Rattle.voting.specs.Tables.{voted}
 use Rattle.voting.proofs.Table.{table-same}

@@ -14,7 +14,7 @@ use Rattle.refusals.specs.Outcome.{Outcome, taken, refused, verdict}
 use Rattle.protocol.specs.Limits.{sheetMost, outputNeeded, cellsNeeded}
 use Rattle.protocol.specs.declared.records.Record.{Record}
 use Rattle.protocol.specs.Calls.{voidRecord}
-use Rattle.protocol.specs.Lists.{keeper}
+use Rattle.protocol.specs.Session.{keeper}
 use Rattle.protocol.specs.declared.head.Head.{Head}
 use Rattle.protocol.specs.Sheet.{Frame, wrongAt, reading}
 use Rattle.protocol.specs.Playing.{setting, finalBoards, printBoards, Play, refusedPlay, playHead, playing}

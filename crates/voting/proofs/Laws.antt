@@ -22,7 +22,7 @@ use Rattle.plan.specs.Calls.{judged}
 use Rattle.tree.specs.Labels.{Label, occurs, mask}
 use Rattle.tree.proofs.Masks.{mask-member}
 use Rattle.protocol.specs.Detection.{vote, explained}
-use Rattle.protocol.proofs.Instance.{setOf-same, tol, tol-q3, tol-path}
+use Rattle.protocol.proofs.Tolerance.{setOf-same, tol, tol-q3, tol-path}
 use Rattle.protocol.proofs.Judgement.{plan-facts}
 use Rattle.voting.specs.Worth.{worth, table}
 use Rattle.voting.specs.Tables.{at, agreeing, elected, voted, dissenting, explains, explainedBy}

@@ -14,28 +14,28 @@ use Rattle.sets.specs.Sets.{member, union, insert, within, boards, setOf, size}
 use Rattle.sets.specs.Only.{only, same}
 use Rattle.sets.specs.Structure.{holder, isSome, tolerated}
 use Rattle.admission.specs.Cover.{strays, covers, thirdPlace, secondPlace, firstPlace, covered}
-use Rattle.plan.specs.Listed.{listed}
-use Rattle.schedule.specs.Schedule.{largest, height, isCut, rounds, runs, firstRound, hasRound}
 use Rattle.admission.specs.Calls.{covering, admitting}
 use Rattle.refusals.specs.Outcome.{andThen}
+use Rattle.plan.specs.Listed.{listed}
 use Rattle.plan.specs.Calls.{isDepth, judgeSettings, planning, planOn, judged}
+use Rattle.plan.specs.Values.{default, value}
+use Rattle.schedule.specs.Schedule.{largest, height, isCut, rounds, runs, firstRound, hasRound}
 use Rattle.tree.specs.Labels.{occurs, mask, last}
 use Rattle.tree.specs.Places.{levelSize, levelStart, cellCount, ordinal, rank, place}
 use Rattle.tree.specs.Cells.{blank, cellAt, store}
-use Rattle.plan.specs.Values.{default, value}
 use Rattle.protocol.specs.Nodes.{read, filter, internal, nodes, inner, carried, sent, due, frame}
 use Rattle.protocol.specs.Listing.{join}
 use Rattle.protocol.specs.Detection.{vote, tabulate, resolve, resolveRoot, explained, byCell, byResolving, passes, maskBoard, detectG, detectAllG, detectC, detectAllC, detectLevels}
 use Rattle.protocol.specs.Records.{runEnded}
 use Rattle.protocol.specs.Rounds.{fill, counted, receive, fillMissing, copyOwn, gather, rootOnly, nextRound, convert, close}
-use Rattle.protocol.specs.Calls.{isTaken, judgeBoard, judgeCells, goodMarks, goodDecision, goodRecord, judgeRecord, judgeOpen, freshRecord, voidRecord, judgeBeginning, beginning, dealing, judgeReceiving, taking, receiving, frameOf, wireOf, judgeSending, sending, closedValues, closing, deciding}
-use Rattle.protocol.specs.Session.{begun}
-use Rattle.protocol.specs.Lists.{Agreement, answers, after, caller, keeper, leaves, state, step, Sound, Fair, StrictlyFair}
+use Rattle.protocol.specs.Calls.{isTaken, judgeNumber, judgeOther, judgeBoard, judgeCells, goodPlan, goodNumber, goodOther, goodPosition, goodMarks, goodDecision, goodRecord, judgeRecord, judgeOpen, freshRecord, voidRecord, judgeBeginning, beginning, dealing, judgeReceiving, taking, receiving, frameOf, wireOf, judgeSending, sending, closedValues, closing, deciding}
+use Rattle.protocol.specs.Session.{begun, keeper, Sound}
 use Rattle.protocol.specs.Cases.{sameList}
-use Rattle.protocol.specs.Example.{exampleSetting, exampleAhead, exampleRest, exampleCalls, said, exampleAnswers}
-use Rattle.protocol.proofs.FairCheck.{everywhere, somewhere, alike, writes, hands, truthful, lacks, fairCall, fairCheck, carriesCall, carriesCheck, checked-strictly}
-use Rattle.protocol.proofs.Strict.{strictly-fair}
-use Rattle.protocol.proofs.Demand.{demand3}
+use Rattle.agreement.specs.Lists.{Agreement, answers, after, caller, leaves, state, step, Fair, StrictlyFair}
+use Rattle.agreement.specs.Example.{exampleSetting, exampleAhead, exampleRest, exampleCalls, said, exampleAnswers}
+use Rattle.agreement.proofs.FairCheck.{everywhere, somewhere, alike, writes, hands, truthful, lacks, fairCall, fairCheck, carriesCall, carriesCheck, checked-strictly}
+use Rattle.agreement.proofs.Strict.{strictly-fair}
+use Rattle.agreement.proofs.Demand.{demand3}
 
 -- What is computed from the definitions.
 pub record Computed : Type 0 where
@@ -63,7 +63,7 @@ pub record Computed : Type 0 where
   pub cells2 : state exampleSetting exampleCalls 2 .cells ≡ (5 ∷ replicate 15 255) ++ (7 ∷ [])
 
 pub computed : Computed
-unfolding encode decode numberAt first any count member union insert within boards setOf size holder isSome tolerated strays covers thirdPlace secondPlace firstPlace covered listed largest height isCut rounds runs firstRound hasRound covering admitting andThen isDepth judgeSettings planning planOn judged occurs mask last levelSize levelStart cellCount ordinal rank place blank cellAt store default value read filter internal nodes inner carried sent due frame only same vote tabulate resolve resolveRoot explained byCell byResolving join passes maskBoard detectG detectAllG detectC detectAllC detectLevels fill counted receive fillMissing copyOwn gather rootOnly nextRound convert runEnded close isTaken judgeBoard judgeCells goodMarks goodDecision goodRecord judgeRecord judgeOpen freshRecord voidRecord judgeBeginning beginning dealing judgeReceiving taking receiving frameOf wireOf judgeSending sending closedValues closing deciding begun answers after caller keeper leaves state step sameList exampleSetting exampleAhead exampleRest exampleCalls said everywhere somewhere alike writes hands truthful lacks fairCall fairCheck carriesCall carriesCheck exampleAnswers
+unfolding encode decode numberAt first any count member union insert within boards setOf size holder isSome tolerated strays covers thirdPlace secondPlace firstPlace covered listed largest height isCut rounds runs firstRound hasRound covering admitting andThen isDepth judgeSettings planning planOn judged occurs mask last levelSize levelStart cellCount ordinal rank place blank cellAt store default value read filter internal nodes inner carried sent due frame only same vote tabulate resolve resolveRoot explained byCell byResolving join passes maskBoard detectG detectAllG detectC detectAllC detectLevels fill counted receive fillMissing copyOwn gather rootOnly nextRound convert runEnded close isTaken judgeNumber judgeOther judgeBoard judgeCells goodPlan goodNumber goodOther goodPosition goodMarks goodDecision goodRecord judgeRecord judgeOpen freshRecord voidRecord judgeBeginning beginning dealing judgeReceiving taking receiving frameOf wireOf judgeSending sending closedValues closing deciding begun answers after caller keeper leaves state step sameList exampleSetting exampleAhead exampleRest exampleCalls said everywhere somewhere alike writes hands truthful lacks fairCall fairCheck carriesCall carriesCheck exampleAnswers
 computed = record {
   accepted = refl;
   tolerable = refl;

@@ -14,27 +14,27 @@ use Rattle.sets.specs.Sets.{member}
 use Rattle.sets.specs.Only.{same}
 use Rattle.sets.proofs.Tests.{cases, clash, is-false, and-l, and-r, and-true, not-t, true-not}
 use Rattle.plan.specs.declared.plan.Plan.{Plan}
+use Rattle.plan.specs.Values.{default}
 use Rattle.schedule.specs.declared.rounds.Round.{Round}
 use Rattle.schedule.specs.Schedule.{rounds, steps, step, stepRun, stepRound}
 use Rattle.schedule.proofs.Steps.{Has, round-of-step}
 use Rattle.tree.specs.Labels.{Label, occurs, last}
 use Rattle.theory.specs.Tree as T
-use Rattle.plan.specs.Values.{default}
 use Rattle.protocol.specs.Nodes.{read, inner}
 use Rattle.protocol.specs.Detection.{Scan, byCell, byResolving, resolve, detectLevels}
 use Rattle.protocol.specs.Records.{runEnded}
 use Rattle.protocol.specs.Rounds.{Board, gather, nextRound, convert}
-use Rattle.protocol.specs.Session.{Adversary, Setting, at, takeAll}
-use Rattle.protocol.specs.Lists.{keeper, Sound}
+use Rattle.protocol.specs.Session.{Adversary, Setting, at, takeAll, keeper, Sound}
 use Rattle.protocol.proofs.Nodes.{node-label, node-has}
 use Rattle.protocol.proofs.Fill.{IsLabel}
-use Rattle.protocol.proofs.Instance.{inst, tol, tol-mono, resolve-inst}
-use Rattle.protocol.proofs.Gathering.{scan-grow, scan-cell, scan-spared, SparedBy}
-use Rattle.protocol.proofs.Converting.{levels-spared, convert-grow}
+use Rattle.protocol.proofs.Tolerance.{tol, tol-mono}
 use Rattle.protocol.proofs.Hearing.{silenced}
 use Rattle.protocol.proofs.Synchronous.{told, keeper-facts, standing, position, number, next-position}
-use Rattle.protocol.proofs.Delivery.{is-due, st, rec, rec-good, scanned, scanned-other}
-use Rattle.protocol.proofs.Soundness.{open-round, inv, scan-is, within-run, run-ends, room, dealer-below, lists-within}
+use Rattle.agreement.proofs.Instance.{inst, resolve-inst}
+use Rattle.agreement.proofs.Gathering.{scan-grow, scan-cell, scan-spared, SparedBy}
+use Rattle.agreement.proofs.Converting.{levels-spared, convert-grow}
+use Rattle.agreement.proofs.Delivery.{is-due, st, rec, rec-good, scanned, scanned-other}
+use Rattle.agreement.proofs.Soundness.{open-round, inv, scan-is, within-run, run-ends, room, dealer-below, lists-within}
 
 module _ (s : Setting) (a : Adversary) (sound : Sound s) where
   abbrev plan : Plan

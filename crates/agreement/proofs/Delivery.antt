@@ -18,31 +18,29 @@ use Rattle.sets.proofs.Tests.{cases, and-true, not-f, true-not}
 use Rattle.sets.proofs.Search.{any-false}
 use Rattle.sets.proofs.Member.{within-boards}
 use Rattle.sets.proofs.Tolerated.{tolerated-listed}
+use Rattle.admission.specs.Cover.{strays}
 use Rattle.plan.specs.declared.plan.Plan.{Plan}
 use Rattle.plan.specs.Listed.{listed}
 use Rattle.plan.specs.Calls.{judged}
+use Rattle.plan.specs.Values.{value}
 use Rattle.schedule.specs.declared.rounds.Round.{Round}
 use Rattle.schedule.specs.Schedule.{steps, stepRun, stepRound}
-use Rattle.admission.specs.Cover.{strays}
 use Rattle.tree.specs.Labels.{Label, occurs}
 use Rattle.theory.specs.Tree as T
-use Rattle.plan.specs.Values.{value}
 use Rattle.protocol.specs.Nodes.{read, nodes, inner, sent, due, frame}
 use Rattle.protocol.specs.Detection.{Scan, detectAllG}
 use Rattle.protocol.specs.Calls.{frameOf}
-use Rattle.protocol.specs.Session.{Adversary, Setting, hears, at}
-use Rattle.protocol.specs.Lists.{keeper, Sound}
+use Rattle.protocol.specs.Session.{Adversary, Setting, hears, at, keeper, Sound}
 use Rattle.protocol.specs.declared.records.Record.{Record}
 use Rattle.protocol.proofs.Nodes.{sent-same, sent-has, inner-inv, node-label}
 use Rattle.protocol.proofs.Fill.{IsLabel}
 use Rattle.protocol.proofs.Local.{detect-outside}
 use Rattle.protocol.proofs.Judgement.{plan-facts, Good, good-dealer}
 use Rattle.protocol.proofs.Bounds.{read-small}
 use Rattle.protocol.proofs.Reached.{other-level}
-use Rattle.protocol.proofs.Instance.{inst, inst-good}
-use Rattle.protocol.proofs.Listing.{listOf}
 use Rattle.protocol.proofs.Hearing.{filled, filled-outside, delivered, copied}
 use Rattle.protocol.proofs.Synchronous.{told, keeper-facts, Standing, standing, canon}
+use Rattle.agreement.proofs.Instance.{inst, inst-good, listOf}
 
 -- A tolerated set of an accepted plan names boards below n only.
 pub tolerated-below : (p : Plan) → judged p .number ≡ 0 → (F : ℕ) → tolerated (listed p) F ≡ true → F < 2 ^ p .n

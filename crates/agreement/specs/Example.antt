@@ -5,8 +5,8 @@ use lib.Dec.{eqb}
 use lib.ListN.{replicate}
 use Rattle.refusals.specs.Outcome.{Outcome, taken, refused}
 use Rattle.plan.specs.Calls.{planOn}
 use Rattle.protocol.specs.Session.{Setting}
-use Rattle.protocol.specs.Lists.{Call, receives, sends, closes, decides, caller, answers, World, step}
+use Rattle.agreement.specs.Lists.{Call, receives, sends, closes, decides, caller, answers, World, step}
 
 -- n = 4, the sets of one board each, dealer 0 with 5, F = {3}. Boards 1 and 2 have records; board 2 lent one cell too many.
 unfoldable pub exampleSetting : Setting

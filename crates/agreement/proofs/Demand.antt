@@ -6,39 +6,38 @@ use mathlib.Core.Logic.{_≢_}
 use mathlib.Core.Bool.{true, false, not, _&&_, cond}
 use mathlib.Core.List.{List, [], _∷_, _++_}
 use native.Mathlib.Omega.{arith}
-use lib.Dec.{ltb}
 use lib.ListN.{getD}
-use borrow.Author.Tests.{ltb-true, ltb-false}
 use Rattle.sets.specs.Search.{count}
 use Rattle.sets.specs.Sets.{member, within}
 use Rattle.sets.proofs.Tests.{cases, clash, and-l, and-r, and-true, not-t, true-not, is-false}
 use Rattle.sets.proofs.Member.{within-member, member-within}
 use Rattle.sets.proofs.Search.{any-same, any-true, any-of}
 use Rattle.sets.proofs.Count.{count-same, count-mono}
+use Rattle.refusals.specs.Outcome.{Outcome, taken, refused, andThen}
+use Rattle.refusals.proofs.Outcomes.{both-taken, taken-first}
 use Rattle.plan.specs.declared.plan.Plan.{Plan}
+use Rattle.plan.specs.Calls.{judged}
 use Rattle.schedule.specs.declared.rounds.Run.{Run}
 use Rattle.schedule.specs.declared.rounds.Round.{Round}
 use Rattle.schedule.specs.Schedule.{depthOf, isCut, rounds, runs, steps, stepRun}
 use Rattle.schedule.specs.Schedule as S
-use Rattle.refusals.specs.Outcome.{Outcome, taken, refused, andThen}
-use Rattle.plan.specs.Calls.{judged}
-use Rattle.refusals.proofs.Outcomes.{both-taken, taken-first}
 use Rattle.schedule.proofs.Steps.{step-has, step-of-round}
 use Rattle.tree.specs.Cells.{blank}
 use Rattle.protocol.specs.declared.records.Record.{Record}
 use Rattle.protocol.specs.Rounds.{Board}
-use Rattle.protocol.specs.Calls.{judgeOpen, judgeRecord, judgeBoard, judgeBeginning, closing, deciding}
-use Rattle.protocol.specs.Session.{Setting, begun, at}
-use Rattle.protocol.specs.Lists.{Call, closes, decides, caller, leaves, answers, state, keeper, Prefix, Stands, Sound, Fair, closings, PastLast, EndsRun, root, list, onEvery, listAfter, Agreement, Demand3}
-use Rattle.protocol.specs.Claims.{ended, rootAfter, listEnded}
-use Rattle.protocol.proofs.Judgement.{open-facts, open-taken, record-taken, board-taken, cells-taken, Good}
-use Rattle.protocol.proofs.Reached.{reached-begun, reached-after}
+use Rattle.protocol.specs.Calls.{judgeOpen, judgeRecord, judgeBoard, judgeBeginning, deciding}
+use Rattle.protocol.specs.Session.{Adversary, Setting, begun, at, keeper, Sound}
+use Rattle.protocol.proofs.Judgement.{open-taken, record-taken, board-taken, cells-taken, Good}
+use Rattle.protocol.proofs.Reached.{reached-begun}
 use Rattle.protocol.proofs.Synchronous.{keeper-facts}
-use Rattle.protocol.proofs.Runs.{lists-grow}
-use Rattle.protocol.proofs.Session.{synchronous}
-use Rattle.protocol.proofs.Prefixes.{state-next, step-own, prefix-refl, prefix-trans, stands-prefix, stands-next, closings-mono}
-use Rattle.protocol.proofs.Inbox.{took}
-use Rattle.protocol.proofs.Fairness.{adversary, base, Where, hearing-open, run-at, round-at, decided-end, more, open-closing, closing-open, closed-is, whereabouts}
+use Rattle.protocol.proofs.Taken.{open-closing}
+use Rattle.agreement.specs.Lists.{Call, closes, decides, caller, answers, state, Prefix, Stands, Fair, closings, EndsRun, root, list, onEvery, listAfter, Agreement, Demand3}
+use Rattle.agreement.specs.Claims.{SessionAgreement, ended, rootAfter, listEnded}
+use Rattle.agreement.proofs.Runs.{lists-grow}
+use Rattle.agreement.proofs.Session.{synchronous}
+use Rattle.agreement.proofs.Prefixes.{prefix-refl, prefix-trans, stands-prefix, stands-next}
+use Rattle.agreement.proofs.Called.{reached-after}
+use Rattle.agreement.proofs.Whereabouts.{adversary, InStep, in-step, below-or-end, closings-mono, closings-next, closed-state}
 
 -- What a decision that was read says.
 deciding-facts : (r : Record) (v : ℕ) → deciding r ≡ taken (v ∷ []) → (r .decided ≡ true) × (r .decision ≡ v)
@@ -65,46 +64,34 @@ module _ (s : Setting) (calls : List Call) (sound : Sound s) (fair : Fair s call
   abbrev plan : Plan
   plan = s .plan
 
+  -- What the faulty boards hand in, and what is known of the synchronous session with it.
+  abbrev faulty : Adversary
+  faulty = adversary s calls sound fair
+
+  agreed : SessionAgreement s faulty
+  agreed = synchronous s faulty sound
+
   -- After a prefix of the list.
   module _ (before : List Call) (pre : Prefix before calls) (i : ℕ) (ki : keeper s i ≡ true) where
-    here : Where s calls sound fair before i
-    here = whereabouts s calls sound fair before pre i ki
+    here : InStep s calls sound fair before i
+    here = in-step s calls sound fair before pre i ki
 
     abbrev count-of : ℕ
     count-of = closings (begun s) i before
 
-    list-is : listAfter s before i ≡ base s calls sound fair count-of i .rec .detected
-    unfolding listAfter
-    list-is =
-        cases (ltb count-of (steps plan))
-        (λ x. ap (λ (b : Board). b .rec .detected) (here .here count-of refl (ltb-true count-of (steps plan) x)))
-        (λ x. let z : count-of ≡ steps plan = omega (arith, here .most, ltb-false count-of (steps plan) x) in
-        ap (λ (b : Board). b .rec .detected) (here .done z ∙ ap (λ j. base s calls sound fair j i) (sym z)))
-
     -- Decided exactly after the last step.
     last-step : state s before i .rec .decided ≡ true → count-of ≡ steps plan
-    last-step d =
-        cases (ltb count-of (steps plan))
-        (λ x. clash d (ap (λ (b : Board). b .rec .decided) (here .here count-of refl (ltb-true count-of (steps plan) x))))
-        (λ x. omega (arith, here .most, ltb-false count-of (steps plan) x))
-
-    decision-is : state s before i .rec .decided ≡ true → state s before i .rec .decision ≡ base s calls sound fair (steps plan) i .rec .decision
-    decision-is d = ap (λ (b : Board). b .rec .decision) (here .done (last-step d))
-
-    past-decision : PastLast s before i → state s before i .rec .decision ≡ base s calls sound fair (steps plan) i .rec .decision
-    past-decision z = ap (λ (b : Board). b .rec .decision) (here .done z)
+    last-step d = below-or-end count-of (steps plan) (here .most) (λ l. clash d (here .opened l .undecided)) (λ z. z)
 
     -- Until then no closing is turned down.
     still-open : count-of < steps plan → judgeOpen (state s before i) .number ≡ 0
-    still-open l =
-        ap (λ b. judgeOpen b .number) (here .here count-of refl l)
-        ∙ ap (λ (o : Outcome). o .number) (open-taken _ (hearing-open s calls sound fair count-of i ki l (λ q. took (begun s) i count-of q before)))
+    still-open l = ap (λ (o : Outcome). o .number) (open-taken (state s before i) (here .opened l))
 
     -- A record of the list is good.
     rec-good : Good (state s before i .rec)
     unfolding state begun judgeBeginning
     rec-good =
-        let (l, _, ne) = keeper-facts s (adversary s calls sound fair) sound i ki in
+        let (l, _, ne) = keeper-facts s faulty sound i ki in
         let ok : judgeBeginning plan i (s .buffer i) .number ≡ 0 =
         ap (λ (o : Outcome). o .number) (taken-first (judged plan) _ (sound .accepted) ∙ taken-first (judgeBoard plan i) _ (ap (λ (o : Outcome). o .number) (board-taken plan i l ne))
         ∙ cells-taken plan (s .buffer i) (sound .cells-enough i ki)) in
@@ -122,45 +109,54 @@ module _ (s : Setting) (calls : List Call) (sound : Sound s) (fair : Fair s call
       let early = prefix-trans before now calls p q in
       let j = closings (begun s) i before in
       let c = closings (begun s) i now in
-      let le : j ≤ c = closings-mono (begun s) i before now p in
+      let le : j ≤ c = closings-mono s i before now p in
       let z : j + (c - j) ≡ c = omega arith in
       member-within (state s before i .rec .plan .n) (listAfter s before i) (listAfter s now i) (rec-good before early i ki .detected-below)
-      (λ r _ on. subst (λ x. member r x ≡ true) (sym (list-is now q i ki))
-      (subst (λ x. member r (base s calls sound fair x i .rec .detected) ≡ true) z
-      (lists-grow s (adversary s calls sound fair) sound i ki (c - j) j (omega (arith, here now q i ki .most)) r
-      (subst (λ x. member r x ≡ true) (list-is before early i ki) on))))
+      (λ r _ on. subst (λ x. member r x ≡ true) (sym (here now q i ki .list))
+      (subst (λ x. member r (at s faulty x i .rec .detected) ≡ true) z
+      (lists-grow s faulty sound i ki (c - j) j (omega (arith, here now q i ki .most)) r
+      (subst (λ x. member r x ≡ true) (here before early i ki .list) on))))
 
   -- A decision that was read is that of the session.
   read-is : (i : ℕ) (before : List Call) (v : ℕ) → Stands (decides i) before calls → answers (decides i) (state s before i) ≡ taken (v ∷ [])
-      → (keeper s i ≡ true) × (v ≡ base s calls sound fair (steps plan) i .rec .decision)
+      → (keeper s i ≡ true) × (v ≡ at s faulty (steps plan) i .rec .decision)
   unfolding answers caller
   read-is i before v st e =
       let ki = fair .callers (decides i) before st in
+      let pre = stands-prefix (decides i) before calls st in
       let (d, x) = deciding-facts (state s before i .rec) v e in
-      (ki, sym x ∙ decision-is before (stands-prefix (decides i) before calls st) i ki d)
+      (ki, sym x ∙ here before pre i ki .decision (last-step before pre i ki d))
 
   -- A closing of the last round of run t.
   module _ (t i : ℕ) (before : List Call) (ki : keeper s i ≡ true) (run-ends : EndsRun s t i before calls) where
     pre : Prefix before calls
     pre = stands-prefix (closes i) before calls (run-ends .stands)
 
+    abbrev closed : List Call
+    closed = before ++ (closes i ∷ [])
+
     abbrev j : ℕ
     j = closings (begun s) i before
 
-    w : Where s calls sound fair before i
-    w = here before pre i ki
+    was : InStep s calls sound fair before i
+    was = here before pre i ki
+
+    is : InStep s calls sound fair closed i
+    is = here closed (stands-next (closes i) before calls (run-ends .stands)) i ki
+
+    one-more : closings (begun s) i closed ≡ suc j
+    one-more = closings-next s i before (run-ends .taken)
 
     low : j < steps plan
-    unfolding answers caller
-    low = more s calls sound fair before (closes i) i ki w (open-facts (state s before i) (closing-open s calls sound fair (state s before i) (run-ends .taken)))
+    low = omega (arith, one-more, is .most)
 
     run-is : stepRun plan (suc j) ≡ record { 0 = t }
-    run-is = ap (λ x. record { 0 = x }) (ap (λ (u : Run). u .0) (sym (run-at s calls sound fair before i w j refl low)) ∙ run-ends .run)
+    run-is = ap (λ x. record { 0 = x }) (ap (λ (u : Run). u .0) (sym (was .run low)) ∙ run-ends .run)
 
     step-is : suc j ≡ S.step plan (record { 0 = t }) (rounds plan)
     step-is =
         sym (step-of-round plan (suc j) (omega arith) (omega (arith, low)))
-        ∙ ap₂ (λ (u : Run) (k : Round). S.step plan u k) run-is (sym (round-at s calls sound fair before i w j refl low) ∙ run-ends .round)
+        ∙ ap₂ (λ (u : Run) (k : Round). S.step plan u k) run-is (sym (was .round low) ∙ run-ends .round)
 
     run-in : (1 ≤ t) × (t ≤ runs plan .0)
     run-in =
@@ -168,41 +164,45 @@ module _ (s : Setting) (calls : List Call) (sound : Sound s) (fair : Fair s call
         let z = ap (λ (u : Run). u .0) run-is in
         (omega (arith, z, h .run-low), omega (arith, z, h .run-high))
 
-    ended-is : closing (state s before i) .board ≡ ended s (adversary s calls sound fair) t i
-    unfolding ended
-    ended-is =
-        closed-is s calls sound fair before i ki (run-ends .stands)
-        (λ earlier p k kk. here earlier (prefix-trans earlier before calls p pre) k kk) j refl low
-        ∙ ap (λ m. base s calls sound fair m i) step-is
+    -- The root and the list that it left are those of the session.
+    root-is : root s i before ≡ rootAfter s faulty t i
+    unfolding root rootAfter ended
+    root-is =
+        ap (λ (b : Board). getD (b .cells) 0 blank) (sym (closed-state s i before)) ∙ is .root (omega (arith, one-more))
+        ∙ ap (λ m. getD (at s faulty m i .cells) 0 blank) (one-more ∙ step-is)
+
+    list-is : list s i before ≡ listEnded s faulty t i
+    unfolding list listAfter listEnded ended
+    list-is =
+        ap (λ (b : Board). b .rec .detected) (sym (closed-state s i before)) ∙ is .list
+        ∙ ap (λ m. at s faulty m i .rec .detected) (one-more ∙ step-is)
 
   -- The boards on every list, as those closings left them.
   every : (t : ℕ) (before : ℕ → List Call) → ((i : ℕ) → keeper s i ≡ true → EndsRun s t i (before i) calls) → (r : ℕ)
-      → onEvery s (listEnded s (adversary s calls sound fair) t) r ≡ onEvery s (λ i. list s i (before i)) r
-  unfolding onEvery listEnded list
+      → onEvery s (listEnded s faulty t) r ≡ onEvery s (λ i. list s i (before i)) r
+  unfolding onEvery
   every t before e r =
       ap not (any-same
-      (λ i. keeper s i && not (member r (ended s (adversary s calls sound fair) t i .rec .detected)))
-      (λ i. keeper s i && not (member r (closing (state s (before i) i) .board .rec .detected))) (plan .n)
+      (λ i. keeper s i && not (member r (listEnded s faulty t i)))
+      (λ i. keeper s i && not (member r (list s i (before i)))) (plan .n)
       (λ i _. cases (keeper s i)
-      (λ k. ap (λ (b : Board). keeper s i && not (member r (b .rec .detected))) (sym (ended-is t i (before i) k (e i k))))
+      (λ k. ap (λ l. keeper s i && not (member r l)) (sym (list-is t i (before i) k (e i k))))
       (λ k. rw k refl)))
 
   bounded : isCut plan ≡ true → (t : ℕ) (before : ℕ → List Call) → ((i : ℕ) → keeper s i ≡ true → EndsRun s t i (before i) calls)
       → (i k : ℕ) → keeper s i ≡ true → keeper s k ≡ true → root s i (before i) ≢ root s k (before k)
       → t * (depthOf plan - 3) + 1 ≤ count (onEvery s (λ i. list s i (before i))) (plan .n)
-  unfolding root rootAfter
   bounded cut t before e i k ki kk ne =
       let (low-t, high-t) = run-in t i (before i) ki (e i ki) in
-      let root-is : (m : ℕ) (km : keeper s m ≡ true) → root s m (before m) ≡ rootAfter s (adversary s calls sound fair) t m =
-      λ m km. ap (λ (b : Board). getD (b .cells) 0 blank) (ended-is t m (before m) km (e m km)) in
+      let roots : (m : ℕ) (km : keeper s m ≡ true) → root s m (before m) ≡ rootAfter s faulty t m = λ m km. root-is t m (before m) km (e m km) in
       subst (λ x. t * (depthOf plan - 3) + 1 ≤ x)
-      (count-same (onEvery s (listEnded s (adversary s calls sound fair) t)) (onEvery s (λ i. list s i (before i))) (plan .n) (λ r _. every t before e r))
-      (synchronous s (adversary s calls sound fair) sound .bound cut t low-t high-t i k ki kk (λ z. ne (root-is i ki ∙ z ∙ sym (root-is k kk))))
+      (count-same (onEvery s (listEnded s faulty t)) (onEvery s (λ i. list s i (before i))) (plan .n) (λ r _. every t before e r))
+      (agreed .bound cut t low-t high-t i k ki kk (λ z. ne (roots i ki ∙ z ∙ sym (roots k kk))))
 
   -- The list that a closing left is the board's list after it.
   list-left : (i : ℕ) (before : List Call) → list s i before ≡ listAfter s (before ++ (closes i ∷ [])) i
-  unfolding list listAfter leaves caller
-  list-left i before = ap (λ (b : Board). b .rec .detected) (sym (state-next s before (closes i) i ∙ step-own (state s before) (closes i) i refl))
+  unfolding list listAfter
+  list-left i before = ap (λ (b : Board). b .rec .detected) (sym (closed-state s i before))
 
   -- Who stands on all lists that the closings left stands on all of them after the whole list.
   bounded-now : isCut plan ≡ true → (t : ℕ) (before : ℕ → List Call) → ((i : ℕ) → keeper s i ≡ true → EndsRun s t i (before i) calls)
@@ -217,31 +217,28 @@ module _ (s : Setting) (calls : List Call) (sound : Sound s) (fair : Fair s call
       let h = bounded cut t before e i k ki kk ne in
       omega arith
 
+  -- After the whole list.
+  now : (i : ℕ) → keeper s i ≡ true → InStep s calls sound fair calls i
+  now i ki = here calls (prefix-refl calls) i ki
+
   agreement : Agreement s calls
   unfolding answers caller
   agreement = record {
     grows = grow;
-    sound = λ i ki. subst (λ x. within x (s .faulty) ≡ true) (sym (list-is calls (prefix-refl calls) i ki))
-        (synchronous s (adversary s calls sound fair) sound .sound (closings (begun s) i calls) i (here calls (prefix-refl calls) i ki .most) ki);
-    decided = λ i ki. (
-      last-step calls (prefix-refl calls) i ki,
-      λ z. ap (λ (b : Board). b .rec .decided) (here calls (prefix-refl calls) i ki .done z) ∙ decided-end s calls sound fair i ki,
-    );
+    sound = λ i ki. subst (λ x. within x (s .faulty) ≡ true) (sym (now i ki .list)) (agreed .sound (closings (begun s) i calls) i (now i ki .most) ki);
+    decided = λ i ki. (last-step calls (prefix-refl calls) i ki, now i ki .decided);
     until = λ i before st l.
-        open-closing s calls sound fair (state s before i) (still-open before (stands-prefix (closes i) before calls st) i (fair .callers (closes i) before st) l);
+        open-closing (state s before i) (still-open before (stands-prefix (closes i) before calls st) i (fair .callers (closes i) before st) l);
     readable = λ i ki d. readable-there calls (prefix-refl calls) i ki d;
-    same = λ i k ki kk z z′.
-        past-decision calls (prefix-refl calls) i ki z
-        ∙ synchronous s (adversary s calls sound fair) sound .equal i k ki kk
-        ∙ sym (past-decision calls (prefix-refl calls) k kk z′);
-    valid = λ f i ki z. past-decision calls (prefix-refl calls) i ki z ∙ synchronous s (adversary s calls sound fair) sound .dealers f i ki;
+    same = λ i k ki kk z z′. now i ki .decision z ∙ agreed .equal i k ki kk ∙ sym (now k kk .decision z′);
+    valid = λ f i ki z. now i ki .decision z ∙ agreed .dealers f i ki;
     equal = λ i k before before′ v v′ st st′ e e′.
         let (ki, x) = read-is i before v st e in
         let (kk, y) = read-is k before′ v′ st′ e′ in
-        x ∙ synchronous s (adversary s calls sound fair) sound .equal i k ki kk ∙ sym y;
+        x ∙ agreed .equal i k ki kk ∙ sym y;
     dealers = λ f i before v st e.
         let (ki, x) = read-is i before v st e in
-        x ∙ synchronous s (adversary s calls sound fair) sound .dealers f i ki;
+        x ∙ agreed .dealers f i ki;
     bound = bounded;
     bound-now = bounded-now;
   }

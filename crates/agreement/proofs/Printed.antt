@@ -16,16 +16,15 @@ use Rattle.sets.proofs.Tests.{cases, clash, and-l, and-true, true-not}
 use Rattle.sets.proofs.Search.{any-true, any-false}
 use Rattle.sets.proofs.Member.{within-empty}
 use Rattle.schedule.specs.Schedule.{steps}
 use Rattle.protocol.specs.Limits.{sheetMost, outputNeeded, cellsNeeded}
-use Rattle.protocol.specs.Session.{Setting, Boards, boardAt, at}
+use Rattle.protocol.specs.Session.{Setting, Boards, boardAt, at, keeper}
 use Rattle.protocol.specs.declared.head.Head.{Head}
 use Rattle.protocol.specs.Sheet.{Frame, wrongAt, reading}
 use Rattle.protocol.specs.Playing.{sheetAdversary, setting, finalBoards, printed, boardLine, printBoards, Play, refusedPlay, playHead, playing, refusalText, benchPrints}
-use Rattle.protocol.specs.Lists.{keeper}
-use Rattle.protocol.specs.Claims.{SessionAgreement}
-use Rattle.protocol.specs.Printed.{agreedLines, Printed}
-use Rattle.protocol.proofs.Session.{synchronous}
 use Rattle.protocol.proofs.Sheets.{sheet-sound}
+use Rattle.agreement.specs.Claims.{SessionAgreement}
+use Rattle.agreement.specs.Printed.{agreedLines, Printed}
+use Rattle.agreement.proofs.Session.{synchronous}
 
 -- A sheet that is played was read, and its cells are enough.
 passes : (b : Bool) (x y : Play) → x .answer .number ≢ 0 → cond b x y .answer .number ≡ 0 → (b ≡ false) × (cond b x y ≡ y)

@@ -8,10 +8,10 @@ use Rattle.sets.specs.Search.{count}
 use Rattle.sets.specs.Sets.{member, within}
 use Rattle.schedule.specs.Schedule.{depthOf, isCut, rounds, runs, steps, step}
 use Rattle.tree.specs.Cells.{blank}
 use Rattle.protocol.specs.Listing.{asSet}
 use Rattle.protocol.specs.Rounds.{Board}
-use Rattle.protocol.specs.Session.{Adversary, Setting, at}
-use Rattle.protocol.specs.Lists.{keeper, Sound, onEvery}
+use Rattle.protocol.specs.Session.{Adversary, Setting, at, keeper, Sound}
+use Rattle.agreement.specs.Lists.{onEvery}
 
 -- Board i as its closing of round R in run t left it.
 unfoldable pub ended : Setting → Adversary → ℕ → ℕ → Board

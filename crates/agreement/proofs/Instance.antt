@@ -3,41 +3,41 @@
 use Prim.Native.Nat.{ℕ, zero, suc, _+_, _-_, _<_, _^_}
 use mathlib.Core.Path.{_≡_, refl, sym, _∙_, ap, subst}
 use mathlib.Core.Logic.{⊎-elim}
-use mathlib.Core.Bool.{Bool, true, false, not, _&&_, cond}
+use mathlib.Core.Bool.{true, false, not, _&&_, cond}
 use mathlib.Core.List.{List, [], _∷_, List·Memᴰ}
 use mathlib.Core.Option.{Option, some, none}
 use native.Mathlib.Omega.{arith}
 use lib.Dec.{eqb, ltb}
 use lib.ListN.{length, getD}
-use borrow.Author.Tests.{lt-ltb, eqb-true}
+use borrow.Author.Tests.{eqb-true}
 use Rattle.sets.specs.Sets.{member, setOf}
 use Rattle.sets.specs.Structure.{tolerated}
 use Rattle.sets.specs.Only.{same}
-use Rattle.sets.proofs.Tests.{cases, clash, is-false, and-l, and-r, and-true, or-true, same-test}
+use Rattle.sets.proofs.Tests.{cases, clash, and-r, or-true}
 use Rattle.sets.proofs.Member.{member-setOf, setOf-below}
 use Rattle.sets.proofs.Tolerated.{tolerated-mono}
 use Rattle.sets.proofs.Only.{only-same}
 use Rattle.plan.specs.declared.plan.Plan.{Plan}
 use Rattle.plan.specs.Listed.{listed}
 use Rattle.plan.specs.Calls.{judged}
+use Rattle.plan.specs.Values.{default}
 use Rattle.schedule.specs.Schedule.{rounds}
-use Rattle.admission.proofs.ThreeCover.{q3}
 use Rattle.schedule.proofs.Levels.{rounds-pos}
-use Rattle.tree.specs.Labels.{Label, occurs, mask}
-use Rattle.tree.proofs.Masks.{mask-member, mask-lt}
+use Rattle.tree.specs.Labels.{Label, occurs}
 use Rattle.theory.specs.Tree as T
 use Rattle.theory.specs.Tree.{Node, root, child}
 use Rattle.theory.proofs.Plans.{good}
-use Rattle.plan.specs.Values.{default}
 use Rattle.protocol.specs.Nodes.{read, internal, nodes, inner}
-use Rattle.protocol.proofs.Nodes.{no-node, root-node, node-root, node-has, node-inv, inner-has, inner-inv}
+use Rattle.protocol.proofs.Nodes.{no-node, root-node, node-root, node-has, node-inv, inner-has, inner-inv, internal-tol, internal-has}
 use Rattle.protocol.specs.Detection.{vote, tabulate, resolve}
 use Rattle.protocol.proofs.Judgement.{plan-facts}
-use Rattle.protocol.proofs.Bounds.{default-small}
+use Rattle.protocol.proofs.Bounds.{default-small, tabulate-at}
+use Rattle.protocol.specs.Listing.{asSet}
+use Rattle.protocol.proofs.Tolerance.{tol, tol-mono, tol-q3, tol-path, setOf-same}
 
--- Is the set of boards below n that pass the test tolerated?
-unfoldable pub tol : Plan → T.Boards → Bool
-tol p s = tolerated (listed p) (setOf s (p .n))
+-- The list as a test.
+abbrev pub listOf : ℕ → T.Boards
+listOf detected = λ r. member r (asSet detected)
 
 -- The plan of the theory.
 abbrev pub inst : Plan → T.Plan
@@ -50,43 +50,6 @@ inst p = record {
   tol = tol p;
   inner = internal p;
 }
-
-pub tol-mono : (p : Plan) (s t : T.Boards) → T.Sub (p .n) s t → tol p t ≡ true → tol p s ≡ true
-unfolding tol
-tol-mono p s t h e =
-    tolerated-mono (listed p) (p .n) (setOf s (p .n)) (setOf t (p .n)) (setOf-below s (p .n))
-    (λ i l m. let z : s i ≡ true = and-r (ltb i (p .n)) (s i) (sym (member-setOf s (p .n) i) ∙ m) in
-    member-setOf t (p .n) i ∙ and-true (ltb i (p .n)) (t i) (lt-ltb i (p .n) l) (h i l z))
-    e
-
--- Sets of boards that pass the same tests are equal.
-pub setOf-same : (f g : ℕ → Bool) (n : ℕ) → ((i : ℕ) → i < n → f i ≡ g i) → setOf f n ≡ setOf g n
-unfolding setOf
-setOf-same f g zero h = refl
-setOf-same f g (suc k) h = rw (h k (omega arith), setOf-same f g k (λ i l. h i (omega arith)))
-
--- Q3, for tests.
-pub tol-q3 : (p : Plan) → judged p .number ≡ 0 → (a b c : T.Boards) → tol p a ≡ true → tol p b ≡ true → tol p c ≡ true
-    → (i : ℕ) × (i < p .n) × (a i ≡ false) × (b i ≡ false) × (c i ≡ false)
-unfolding tol
-tol-q3 p e a b c ta tb tc =
-    let f = plan-facts p e .admission in
-    let (q, l, x, y, z) = q3 (p .n) (listed p) (f .some-board) (f .gap) (setOf a (p .n)) (setOf b (p .n)) (setOf c (p .n)) ta tb tc in
-    (q, l, out a q l x, out b q l y, out c q l z)
-  where
-    out : (s : T.Boards) (q : ℕ) → q < p .n → member q (setOf s (p .n)) ≡ false → s q ≡ false
-    out s q l m = is-false (s q) (λ t. clash (member-setOf s (p .n) q ∙ and-true (ltb q (p .n)) (s q) (lt-ltb q (p .n) l) t) m)
-
--- The boards of a label, as a set and as a test.
-pub tol-path : (p : Plan) (α : Label) → ((i : ℕ) → occurs i α ≡ true → i < p .n) → tol p (T.path α) ≡ tolerated (listed p) (mask α)
-unfolding tol
-tol-path p α h =
-    let s = setOf (T.path α) (p .n) in
-    same-test (tolerated (listed p) s) (tolerated (listed p) (mask α))
-    (λ t. tolerated-mono (listed p) (p .n) (mask α) s (mask-lt (p .n) α h)
-    (λ i l m. member-setOf (T.path α) (p .n) i ∙ and-true (ltb i (p .n)) (occurs i α) (lt-ltb i (p .n) l) (sym (mask-member i α) ∙ m)) t)
-    (λ t. tolerated-mono (listed p) (p .n) s (mask α) (setOf-below (T.path α) (p .n))
-    (λ i l m. mask-member i α ∙ and-r (ltb i (p .n)) (occurs i α) (sym (member-setOf (T.path α) (p .n) i) ∙ m)) t)
 
 -- The levels left below a node, and its length.
 pub node-level : (p : Plan) {i k : ℕ} {α : Label} → Node (inst p) i k α → length α + k ≡ rounds p .0
@@ -128,23 +91,15 @@ mem-node p i (suc (suc j)) k α m e =
 
 -- What the theory asks of a plan.
 pub inst-good : (p : Plan) (F : ℕ) → judged p .number ≡ 0 → F < 2 ^ p .n → tolerated (listed p) F ≡ true → T.Good (inst p) (λ i. member i F)
-unfolding internal tol
+unfolding tol
 inst-good p F e lF tF =
     let f = plan-facts p e in
     good (inst p)
-    (λ i k α N t. tol-path p α (node-below p (f .dealer-below) N) ∙ and-l (tolerated (listed p) (mask α)) (ltb (length α) (rounds p .0)) t)
-    (λ i k α N t _. and-true (tolerated (listed p) (mask α)) (ltb (length α) (rounds p .0))
-    (sym (tol-path p α (node-below p (f .dealer-below) N)) ∙ t) (lt-ltb (length α) (rounds p .0) (omega (arith, node-level p N))))
+    (λ i k α N t. tol-path p α (node-below p (f .dealer-below) N) ∙ internal-tol p i α t)
+    (λ i k α N t out. internal-has p i α (sym (tol-path p α (node-below p (f .dealer-below) N)) ∙ t) (omega (arith, node-level p N)) out)
     (λ i. member i F) (default-small p (omega (arith, f .two-values))) (f .dealer-below) (tol-mono p) (tol-q3 p e)
     (tolerated-mono (listed p) (p .n) (setOf (λ i. member i F) (p .n)) F (setOf-below (λ i. member i F) (p .n))
     (λ i l m. and-r (ltb i (p .n)) (member i F) (sym (member-setOf (λ i. member i F) (p .n) i) ∙ m)) tF)
-
--- Entry c of a table.
-pub tabulate-at : (f : ℕ → Option ℕ) (k i c : ℕ) → c < k → getD (tabulate f i k) c none ≡ f (i + c)
-unfolding tabulate
-tabulate-at f zero i c l = absurd (omega arith)
-tabulate-at f (suc k) i zero l = ap f (let z : i ≡ i + 0 = omega arith in z)
-tabulate-at f (suc k) i (suc c) l = tabulate-at f k (suc i) c (omega arith) ∙ ap f (let z : suc i + c ≡ i + suc c = omega arith in z)
 
 -- The vote looks only at children.
 pub vote-same : (p : Plan) (α : Label) (f g : ℕ → Option ℕ) → ((c : ℕ) → c < p .n → occurs c α ≡ false → f c ≡ g c) → vote p α f ≡ T.winner (inst p) α g

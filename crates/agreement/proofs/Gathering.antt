@@ -18,6 +18,7 @@ use Rattle.sets.proofs.Tests.{cases, clash, is-false, is-true, and-l, and-r, or
 use Rattle.sets.proofs.Search.{any-true}
 use Rattle.plan.specs.declared.plan.Plan.{Plan}
 use Rattle.plan.specs.Listed.{listed}
+use Rattle.plan.specs.Values.{default, value}
 use Rattle.schedule.specs.declared.rounds.Run.{Run}
 use Rattle.schedule.specs.declared.rounds.Round.{Round}
 use Rattle.tree.specs.Labels.{Label, occurs, last}
@@ -27,16 +28,16 @@ use Rattle.tree.proofs.Cells.{store-length, store-same, store-other}
 use Rattle.theory.specs.Tree as T
 use Rattle.theory.specs.Runs as R
 use Rattle.theory.proofs.Soundness.{spared}
-use Rattle.plan.specs.Values.{default, value}
 use Rattle.protocol.specs.Nodes.{read, nodes, inner}
 use Rattle.protocol.specs.declared.records.Rule.the-variants as Rule
 use Rattle.protocol.specs.Listing.{join}
 use Rattle.protocol.specs.Detection.{explained, byCell, passes, Scan, maskBoard, detectG, detectAllG}
 use Rattle.protocol.proofs.Nodes.{no-node, inner-inv, node-label, node-has}
 use Rattle.protocol.proofs.Fill.{IsLabel, label-dec, value-default}
 use Rattle.protocol.proofs.Local.{detectG-length}
-use Rattle.protocol.proofs.Listing.{listOf, join-has, join-keeps, join-inv}
-use Rattle.protocol.proofs.Instance.{tol, tol-mono, inst}
+use Rattle.protocol.proofs.Listing.{join-has, join-keeps, join-inv}
+use Rattle.protocol.proofs.Tolerance.{tol, tol-mono}
+use Rattle.agreement.proofs.Instance.{listOf, inst}
 
 -- The definitions' test is the theory's.
 pub explained-inst : (p : Plan) (α : Label) (f : ℕ → Option ℕ) (s : ℕ) → explained p α f s ≡ R.explained (inst p) α f (listOf s)

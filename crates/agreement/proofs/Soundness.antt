@@ -11,40 +11,38 @@ use lib.Dec.{eqb, ltb}
 use lib.ListN.{length}
 use borrow.Author.Tests.{eqb-true, eqb-false, eq-eqb, ne-eqb, ltb-true, ltb-false, lt-ltb}
 use Rattle.sets.specs.Sets.{member}
-use Rattle.sets.proofs.Tests.{cases, clash, is-false}
+use Rattle.sets.proofs.Tests.{cases, clash, is-false, or-r}
 use Rattle.sets.proofs.Member.{member-empty}
 use Rattle.plan.specs.declared.plan.Plan.{Plan}
+use Rattle.plan.specs.Values.{default}
 use Rattle.schedule.specs.declared.rounds.Round.{Round}
 use Rattle.schedule.specs.Schedule.{rounds, steps, stepRun, stepRound}
+use Rattle.schedule.proofs.Levels.{rounds-pos}
 use Rattle.tree.specs.Labels.{Label, occurs, last}
 use Rattle.tree.specs.Places.{cellCount, place, levelStart, levelSize, rank}
 use Rattle.tree.specs.Cells.{cellAt}
 use Rattle.tree.proofs.Labels.{label-dealer, root-has}
 use Rattle.theory.specs.Tree as T
-use Rattle.protocol.specs.declared.records.Record.{Record}
-use Rattle.plan.specs.Values.{default}
-use Rattle.protocol.specs.Nodes.{read, internal, inner, sent, due}
 use Rattle.theory.specs.Runs.{Flow}
 use Rattle.theory.specs.Tree.{root, child}
 use Rattle.theory.proofs.Uniform.{uniform, healthy-node}
-use Rattle.protocol.proofs.Converting.{Minds, levels-sound}
+use Rattle.protocol.specs.declared.records.Record.{Record}
+use Rattle.protocol.specs.Nodes.{read, internal, inner, sent, due}
 use Rattle.protocol.specs.Detection.{Scan, byResolving, resolveRoot, detectLevels}
 use Rattle.protocol.specs.Records.{runEnded}
 use Rattle.protocol.specs.Rounds.{rootOnly, nextRound, convert, Board, gather}
-use Rattle.protocol.specs.Session.{Adversary, Setting, at, takeAll}
+use Rattle.protocol.specs.Session.{Adversary, Setting, at, takeAll, keeper, Sound}
 use Rattle.protocol.specs.Calls.{freshRecord}
-use Rattle.schedule.proofs.Levels.{rounds-pos}
-use Rattle.protocol.specs.Lists.{keeper, Sound}
-use Rattle.protocol.proofs.Nodes.{inner-same, inner-inv, inner-has, node-label, node-length, node-root, node-inv, node-has, no-node}
+use Rattle.protocol.proofs.Nodes.{inner-moves, inner-inv, inner-has, node-label, node-length, node-root, node-inv, node-has, no-node}
 use Rattle.protocol.proofs.Fill.{IsLabel}
 use Rattle.protocol.proofs.Judgement.{plan-facts}
 use Rattle.protocol.proofs.Bounds.{read-small, root-small}
-use Rattle.protocol.proofs.Instance.{inst, mem-node, node-mem, node-level, node-size, resolve-inst}
-use Rattle.protocol.proofs.Listing.{listOf}
-use Rattle.protocol.proofs.Gathering.{scan-cell, scan-sound}
 use Rattle.protocol.proofs.Hearing.{stored, filled, filled-length, delivered, value-same}
 use Rattle.protocol.proofs.Synchronous.{at-start, begun-shape, told, keeper-facts, standing, position, number, heard-all, ready, after-step, close-next, close-last, next-run, more-runs}
-use Rattle.protocol.proofs.Delivery.{good, healthy, healthy-keeper, told-word, st, rec, rec-good, stored-cells, scanned, stored-healthy, scanned-other}
+use Rattle.agreement.proofs.Converting.{Minds, levels-sound}
+use Rattle.agreement.proofs.Instance.{inst, mem-node, node-mem, node-level, node-size, resolve-inst, listOf}
+use Rattle.agreement.proofs.Gathering.{scan-cell, scan-sound}
+use Rattle.agreement.proofs.Delivery.{good, healthy, healthy-keeper, told-word, st, rec, rec-good, stored-cells, scanned, stored-healthy, scanned-other}
 
 module _ (s : Setting) (a : Adversary) (sound : Sound s) where
   abbrev plan : Plan
@@ -86,7 +84,7 @@ module _ (s : Setting) (a : Adversary) (sound : Sound s) where
     -- The healthy children of a healthy board's node have one value.
     minds : (i e : ℕ) (ki : keeper s i ≡ true) (α : Label) → open-round j ≡ suc (suc e) → List·Memᴰ α (inner plan i (suc e)) → member (last α) F ≡ false
         → (v : ℕ) × (v < plan .span) × ((c : ℕ) → T.Healthy (inst plan) (listOf F) c → occurs c α ≡ false → read plan (stored-cells s a sound j i ki l) (c ∷ α) ≡ v)
-    unfolding last
+    unfolding last occurs
     minds i zero ki α ek m out =
         let z : α ≡ plan .dealer ∷ [] = node-root plan i α (inner-inv plan i 1 α m .0) in
         let f : member (plan .dealer) F ≡ false = subst (λ x. member (last x) F ≡ false) z out in (
@@ -109,7 +107,7 @@ module _ (s : Setting) (a : Adversary) (sound : Sound s) where
               let kc = healthy-keeper s a sound c C in
               stored-healthy s a sound j i ki l c (suc e) α kc (unlisted i c ki (C .below) (C .correct)) ek m a-out
               ∙ ap (read plan (at s a j c .cells)) x
-              ∙ I .deliver c r e β kc kr (subst (λ αs. List·Memᴰ β αs) (inner-same plan i c (suc e)) w) r-out (omega arith),
+              ∙ I .deliver c r e β kc kr (inner-moves plan i c (suc e) β w (or-r (eqb c r) (occurs c β) (subst (λ y. occurs c y ≡ false) x a-out))) r-out (omega arith),
         )
 
     -- The round is 1, or there is a level before it.
@@ -232,14 +230,14 @@ module _ (s : Setting) (a : Adversary) (sound : Sound s) where
 
       -- What a healthy board's node holds is the same for all healthy boards that are not on it.
       held : (i e : ℕ) (α : Label) → keeper s i ≡ true → List·Memᴰ α (inner plan i (suc e)) → suc e ≤ rounds plan .0 - 1 → member (last α) F ≡ false
-          → (v : ℕ) × (v < plan .span) × ((c : ℕ) → keeper s c ≡ true → cell-of c α ≡ v)
-      unfolding last
+          → (v : ℕ) × (v < plan .span) × ((c : ℕ) → keeper s c ≡ true → occurs c α ≡ false → cell-of c α ≡ v)
+      unfolding last occurs
       held i zero α ki m h out =
           let z : α ≡ plan .dealer ∷ [] = node-root plan i α (inner-inv plan i 1 α m .0) in
           let f : member (plan .dealer) F ≡ false = subst (λ x. member (last x) F ≡ false) z out in (
             s .word,
             sound .word-below f,
-            λ c kc. ap (cell-of c) z ∙ ap (λ x. read plan (x .cells) (plan .dealer ∷ [])) (scan-is c kc) ∙ scan-root f c kc,
+            λ c kc _. ap (cell-of c) z ∙ ap (λ x. read plan (x .cells) (plan .dealer ∷ [])) (scan-is c kc) ∙ scan-root f c kc,
           )
       held i (suc e) α ki m h out =
           let (β, w, (r, x, lr, r-out)) = node-inv plan i e α (inner-inv plan i (suc (suc e)) α m .0) in
@@ -249,7 +247,9 @@ module _ (s : Setting) (a : Adversary) (sound : Sound s) where
           let kr = healthy-keeper s a sound r (record { below = lr; correct = f; keeper = nd }) in (
             cell-of r β,
             read-small plan some-value (scan-of r .cells) β,
-            λ c kc. ap (cell-of c) x ∙ cell-deliver c r e β kc kr (subst (λ αs. List·Memᴰ β αs) (inner-same plan i c (suc e)) w) r-out (omega arith),
+            λ c kc a-out.
+                let above : occurs c β ≡ false = or-r (eqb c r) (occurs c β) (subst (λ y. occurs c y ≡ false) x a-out) in
+                ap (cell-of c) x ∙ cell-deliver c r e β kc kr (inner-moves plan i c (suc e) β w above) r-out (omega arith),
           )
 
       -- Rule C lists faulty boards only.
@@ -278,7 +278,7 @@ module _ (s : Setting) (a : Adversary) (sound : Sound s) where
                       λ c C a-out. unfold byResolving in
                           resolve-inst plan i (scan-of i .cells) left (c ∷ α)
                           ∙ healthy-node (good s a sound) flow C i (healthy s a sound i ki) (child N inn (C .below) a-out)
-                          ∙ ap some (u c (healthy-keeper s a sound c C)),
+                          ∙ ap some (u c (healthy-keeper s a sound c C) a-out),
                     ),
               )
 

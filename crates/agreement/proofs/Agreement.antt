@@ -11,6 +11,7 @@ use native.Mathlib.Nat.{suc-mul, zero-mul}
 use lib.ListN.{length}
 use Rattle.sets.specs.Sets.{member, size}
 use Rattle.plan.specs.declared.plan.Plan.{Plan}
+use Rattle.plan.specs.Values.{default}
 use Rattle.schedule.specs.declared.rounds.Run.{Run}
 use Rattle.schedule.specs.declared.rounds.Round.{Round}
 use Rattle.schedule.specs.Schedule.{rounds, runs, steps, step, stepRun, stepRound}
@@ -21,20 +22,17 @@ use Rattle.tree.proofs.Labels.{root-has}
 use Rattle.theory.specs.Tree as T
 use Rattle.theory.specs.Tree.{Node}
 use Rattle.theory.specs.Runs as U
-use Rattle.plan.specs.Values.{default}
 use Rattle.protocol.specs.Nodes.{read, internal, inner}
 use Rattle.protocol.specs.Detection.{resolveRoot}
 use Rattle.protocol.specs.Rounds.{Board, rootOnly}
-use Rattle.protocol.specs.Session.{Adversary, Setting, at}
-use Rattle.protocol.specs.Lists.{keeper, Sound}
+use Rattle.protocol.specs.Session.{Adversary, Setting, at, keeper, Sound}
 use Rattle.protocol.proofs.Nodes.{inner-has}
 use Rattle.protocol.proofs.Bounds.{root-small}
-use Rattle.protocol.proofs.Instance.{inst, node-mem, node-level, resolve-inst, node-size}
-use Rattle.protocol.proofs.Listing.{listOf}
-use Rattle.protocol.proofs.Converting.{convert-cells}
-use Rattle.protocol.proofs.Delivery.{healthy-keeper}
-use Rattle.protocol.proofs.Soundness.{open-round, inv, flow, scan-is, scan-lists, scan-root, run-ends, some-value, dealer-below, lists-within, root-read}
-use Rattle.protocol.proofs.Runs.{scan, scan-other, lists-grow, run-keeps, round-step, masked, spared-g, spared-c}
+use Rattle.agreement.proofs.Instance.{inst, node-mem, node-level, resolve-inst, node-size, listOf}
+use Rattle.agreement.proofs.Converting.{convert-cells}
+use Rattle.agreement.proofs.Delivery.{healthy-keeper}
+use Rattle.agreement.proofs.Soundness.{open-round, inv, flow, scan-is, scan-lists, scan-root, run-ends, some-value, dealer-below, lists-within, root-read}
+use Rattle.agreement.proofs.Runs.{scan, scan-other, lists-grow, run-keeps, round-step, masked, spared-g, spared-c}
 
 module _ (s : Setting) (a : Adversary) (sound : Sound s) where
   abbrev plan : Plan

@@ -13,16 +13,16 @@ use Rattle.sets.specs.Search.{any}
 use Rattle.sets.specs.Sets.{member}
 use Rattle.sets.proofs.Tests.{cases, clash, and-l, and-r, and-true, or-true, not-t, true-not}
 use Rattle.sets.proofs.Search.{any-of}
+use Rattle.refusals.specs.Outcome.{Outcome, taken}
 use Rattle.schedule.specs.declared.rounds.Run.{Run}
 use Rattle.schedule.specs.declared.rounds.Round.{Round}
-use Rattle.refusals.specs.Outcome.{Outcome, taken}
 use Rattle.protocol.specs.Nodes.{due}
 use Rattle.protocol.specs.Calls.{isTaken, dealing, sending}
-use Rattle.protocol.specs.Session.{Setting}
-use Rattle.protocol.specs.Lists.{Call, receives, sends, closes, decides, caller, answers, state, keeper, Stands, Taken, SameRound, Written, AsSent, HandedInAsSent, Fair, StrictlyFair}
+use Rattle.protocol.specs.Session.{Setting, keeper}
 use Rattle.protocol.specs.Cases.{sameList}
 use Rattle.protocol.proofs.Judgement.{is-taken, taken-is}
-use Rattle.protocol.proofs.Reached.{due-sender}
+use Rattle.protocol.proofs.Taken.{due-sender}
+use Rattle.agreement.specs.Lists.{Call, receives, sends, closes, decides, caller, answers, state, Stands, Taken, SameRound, Written, AsSent, HandedInAsSent, Fair, StrictlyFair}
 
 -- Equal lists.
 pub same-list : (xs ys : List ℕ) → sameList xs ys ≡ true → xs ≡ ys

@@ -1,9 +1,9 @@
 -- A list that is fair by the sentences of 01 is fair.
 -- Assumes nothing.
 use mathlib.Core.List.{List}
 use Rattle.protocol.specs.Session.{Setting}
-use Rattle.protocol.specs.Lists.{Call, receives, closes, Fair, StrictlyFair}
-use Rattle.protocol.proofs.Prefixes.{stands-prefix, stands-in}
+use Rattle.agreement.specs.Lists.{Call, receives, closes, Fair, StrictlyFair}
+use Rattle.agreement.proofs.Prefixes.{stands-prefix, stands-in}
 
 pub strictly-fair : (s : Setting) (calls : List Call) → StrictlyFair s calls → Fair s calls
 strictly-fair s calls strict = record {

@@ -23,15 +23,16 @@ use Rattle.schedule.specs.Schedule.{rounds}
 use Rattle.tree.specs.Labels.{Label, occurs, last}
 use Rattle.theory.specs.Tree as T
 use Rattle.theory.proofs.Soundness.{spared}
 use Rattle.protocol.specs.Nodes.{inner}
 use Rattle.protocol.specs.declared.records.Rule.the-variants as Rule
 use Rattle.protocol.specs.Detection.{resolveRoot, Scan, explained, byResolving, passes, detectC, detectAllC, detectLevels}
 use Rattle.protocol.specs.Records.{runEnded}
 use Rattle.protocol.specs.Rounds.{Board, rootOnly, convert}
 use Rattle.protocol.proofs.Bounds.{detectC-joined, detectC-kept}
-use Rattle.protocol.proofs.Instance.{tol, tol-mono, inst}
-use Rattle.protocol.proofs.Gathering.{explained-inst}
-use Rattle.protocol.proofs.Listing.{listOf, join-has, join-keeps, join-inv}
+use Rattle.protocol.proofs.Tolerance.{tol, tol-mono}
+use Rattle.protocol.proofs.Listing.{join-has, join-keeps, join-inv}
+use Rattle.agreement.proofs.Instance.{inst, listOf}
+use Rattle.agreement.proofs.Gathering.{explained-inst}
 
 module _ (p : Plan) (i : ℕ) (run : Run) (round : Round) (cells : List ℕ) where
   detectC-grow : (α : Label) (s r : ℕ) → member r s ≡ true → member r (detectC p i run round cells α s) ≡ true

@@ -4,22 +4,18 @@ use mathlib.Core.Path.{_≡_}
 use mathlib.Core.Logic.{_≢_, _↔_}
 use mathlib.Core.Bool.{Bool, true, false, not, _&&_, cond}
 use mathlib.Core.List.{List, [], _∷_, _++_}
-use lib.Dec.{eqb, ltb}
-use lib.ListN.{length, getD, take}
+use lib.Dec.{eqb}
+use lib.ListN.{getD, take}
 use Rattle.sets.specs.Search.{any, count}
 use Rattle.sets.specs.Sets.{member, within}
-use Rattle.sets.specs.Structure.{tolerated}
-use Rattle.plan.specs.Listed.{listed}
-use Rattle.schedule.specs.Schedule.{depthOf, isCut, rounds, steps}
 use Rattle.refusals.specs.Outcome.{Outcome, taken}
-use Rattle.plan.specs.Calls.{judged}
-use Rattle.tree.specs.Places.{cellCount}
+use Rattle.schedule.specs.Schedule.{depthOf, isCut, rounds, steps}
 use Rattle.tree.specs.Cells.{blank}
 use Rattle.protocol.specs.Listing.{asSet}
 use Rattle.protocol.specs.Nodes.{due}
 use Rattle.protocol.specs.Rounds.{Board}
 use Rattle.protocol.specs.Calls.{dealing, receiving, sending, closing, deciding}
-use Rattle.protocol.specs.Session.{Setting, begun}
+use Rattle.protocol.specs.Session.{Setting, begun, keeper, Sound}
 
 -- 01: "Each call in the list is a handing in, a writing, a closing or a reading of the decision by one of the boards with a record."
 -- The first number is that board's; a handing in has the sender's number and a copy of the frame, a writing the lent output.
@@ -62,10 +58,6 @@ unfoldable pub after : World → List Call → World
 after w [] = w
 after w (c ∷ cs) = after (step w c) cs
 
--- 01: "Each board outside F except d has its own record and cells, as its beginning on that plan left them".
-unfoldable pub keeper : Setting → ℕ → Bool
-keeper s i = ltb i (s .plan .n) && (not (member i (s .faulty)) && not (eqb i (s .plan .dealer)))
-
 -- Board i after the calls.
 unfoldable pub state : Setting → List Call → ℕ → Board
 state s calls = after (begun s) calls
@@ -81,13 +73,6 @@ Stands c before calls = (rest : List Call) × (calls ≡ before ++ (c ∷ rest))
 -- It is taken there.
 abbrev pub Taken : Setting → Call → List Call → Type 0
 Taken s c before = answers c (state s before (caller c)) .number ≡ 0
-
--- 01: "The plan is accepted and F is tolerated. .. If d is outside F, it has one value below m". Lent cells are long enough.
-pub record Sound (s : Setting) : Type 0 where
-  pub accepted : judged (s .plan) .number ≡ 0
-  pub tolerable : tolerated (listed (s .plan)) (s .faulty) ≡ true
-  pub word-below : member (s .plan .dealer) (s .faulty) ≡ false → s .word < s .plan .span
-  pub cells-enough : (i : ℕ) → keeper s i ≡ true → cellCount (s .plan .n) ≤ length (s .buffer i)
 
 -- Board i, after the calls `now`, stands in the same run and round as board q after the calls `then`.
 pub record SameRound (s : Setting) (q : ℕ) (then : List Call) (i : ℕ) (now : List Call) : Type 0 where

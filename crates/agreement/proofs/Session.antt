@@ -24,20 +24,20 @@ use Rattle.tree.specs.Cells.{blank}
 use Rattle.theory.specs.Tree as T
 use Rattle.theory.specs.Runs as U
 use Rattle.theory.proofs.Agreement.{persistence, validity, detection, cut-agreement, full-agreement}
 use Rattle.protocol.specs.declared.records.Record.{Record}
 use Rattle.protocol.specs.Records.{runEnded}
 use Rattle.protocol.specs.Rounds.{Board, rootOnly, convert, close}
-use Rattle.protocol.specs.Session.{Adversary, Setting, at}
-use Rattle.protocol.specs.Lists.{keeper, Sound, onEvery}
-use Rattle.protocol.specs.Claims.{ended, rootAfter, listEnded, SessionAgreement, Synchronous}
+use Rattle.protocol.specs.Session.{Adversary, Setting, at, keeper, Sound}
 use Rattle.protocol.proofs.Judgement.{plan-facts}
-use Rattle.protocol.proofs.Instance.{inst, tol}
+use Rattle.protocol.proofs.Tolerance.{tol}
 use Rattle.protocol.proofs.Reached.{close-good, close-plan}
-use Rattle.protocol.proofs.Listing.{listOf}
 use Rattle.protocol.proofs.Synchronous.{standing, ready, ready-open, after-step}
-use Rattle.protocol.proofs.Delivery.{good, healthy, healthy-keeper, st}
-use Rattle.protocol.proofs.Soundness.{open-round, inv, run-ends, lists-within}
-use Rattle.protocol.proofs.Agreement.{last-step, in-time, at-end, number, run-number, lists, roots, resolved, left-root, session}
+use Rattle.agreement.specs.Lists.{onEvery}
+use Rattle.agreement.specs.Claims.{ended, rootAfter, listEnded, SessionAgreement, Synchronous}
+use Rattle.agreement.proofs.Instance.{inst, listOf}
+use Rattle.agreement.proofs.Delivery.{good, healthy, healthy-keeper, st}
+use Rattle.agreement.proofs.Soundness.{open-round, inv, run-ends, lists-within}
+use Rattle.agreement.proofs.Agreement.{last-step, in-time, at-end, number, run-number, lists, roots, resolved, left-root, session}
 
 module _ (s : Setting) (a : Adversary) (sound : Sound s) where
   abbrev plan : Plan

@@ -1,0 +1,17 @@
+pub mod Instance
+pub mod Gathering
+pub mod Converting
+pub mod Delivery
+pub mod Soundness
+pub mod Runs
+pub mod Agreement
+pub mod Session
+pub mod Printed
+pub mod Prefixes
+pub mod Reduction
+pub mod Whereabouts
+pub mod Called
+pub mod Strict
+pub mod Demand
+pub mod FairCheck
+pub mod Example

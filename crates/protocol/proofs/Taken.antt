@@ -1,0 +1,83 @@
+-- What a handing in, a writing and a closing that are taken have passed, and what they leave; one that is refused leaves the board as it is.
+-- Assumes nothing.
+use Prim.Native.Nat.{ℕ, _<_}
+use mathlib.Core.Path.{_≡_, refl, sym, _∙_, ap₂, ap}
+use mathlib.Core.List.{List, _∷_, _++_, []}
+use mathlib.Core.Bool.{true, false, not, _&&_}
+use native.Mathlib.Omega.{arith}
+use lib.ListN.{length, take, drop, getD}
+use lib.Dec.{ltb, eqb}
+use lib.Seq.{take-at}
+use borrow.Author.Tests.{ltb-true}
+use Rattle.sets.proofs.Tests.{cases, and-l}
+use Rattle.sets.specs.Sets.{member}
+use Rattle.sets.specs.Search.{any}
+use Rattle.refusals.specs.Outcome.{Outcome, taken, refused}
+use Rattle.refusals.proofs.Outcomes.{taken-first, both-taken, passed}
+use Rattle.plan.specs.declared.plan.Plan.{Plan}
+use Rattle.schedule.specs.declared.rounds.Round.{Round}
+use Rattle.protocol.specs.Rounds.{close, Board, receive}
+use Rattle.protocol.specs.Calls.{judgeOpen, isTaken, wireOf, judgeSending, sending, taking, judgeReceiving, closing}
+use Rattle.protocol.specs.Nodes.{sent, due}
+use Rattle.protocol.proofs.Judgement.{open-facts, Open, taken-is}
+
+-- What a handing in that is taken has passed.
+pub receiving-facts : (b : Board) (q : ℕ) → judgeReceiving b q .number ≡ 0
+    → Open b × (due (b .rec .plan) q (b .rec .board) (b .rec .round) ≡ true) × (member q (b .rec .taken) ≡ false)
+unfolding judgeReceiving
+receiving-facts b q e =
+    let r = b .rec in
+    let (e1, e2) = both-taken (judgeOpen b) _ e in
+    let d = due (r .plan) q (r .board) (r .round) in
+    let on : d ≡ true = cases d (λ x. x) (λ x. absurd (let z : 14 ≡ 0 = rw x at e2 in let y : ⊥ = omega arith in y)) in
+    (open-facts b e1, on, passed (member q (r .taken)) (refused 15) (taken []) (omega arith) (rw on at e2) .0)
+
+pub due-sender : (p : Plan) (q i : ℕ) (k : Round) → due p q i k ≡ true → q < p .n
+unfolding due
+due-sender p q i k e =
+    let rest = not (eqb q i) && (not (eqb i (p .dealer)) && ltb 0 (length (sent p q i k))) in
+    ltb-true q (p .n) (and-l (ltb q (p .n)) (ltb i (p .n)) (and-l (ltb q (p .n) && ltb i (p .n)) rest e))
+
+pub taking-taken : (b : Board) (q : ℕ) (vs : List ℕ) → judgeReceiving b q .number ≡ 0 → taking b q vs .board ≡ receive q vs b
+unfolding taking
+taking-taken b q vs e = rw (taken-is (judgeReceiving b q) e)
+
+pub taking-refused : (b : Board) (q : ℕ) (vs : List ℕ) → isTaken (judgeReceiving b q) ≡ false → taking b q vs .board ≡ b
+unfolding taking
+taking-refused b q vs e = rw e
+
+pub closing-taken : (b : Board) → judgeOpen b .number ≡ 0 → closing b .board ≡ close b
+unfolding closing
+closing-taken b e = rw (taken-is (judgeOpen b) e)
+
+pub closing-refused : (b : Board) → isTaken (judgeOpen b) ≡ false → closing b .board ≡ b
+unfolding closing
+closing-refused b e = rw e
+
+-- A writing that is taken is made by an open board, and gives its frame.
+pub sending-open : (b : Board) (out : List ℕ) → sending b out .answer .number ≡ 0 → Open b
+unfolding sending judgeSending
+sending-open b out e = open-facts b (both-taken (judgeOpen b) _ e .0)
+
+pub sending-gives : (b : Board) (out : List ℕ) (k : ℕ) → sending b out .answer ≡ taken (k ∷ []) → take k (sending b out .out) ≡ wireOf b
+unfolding sending judgeSending isTaken
+sending-gives b out k e =
+    let r = b .rec in
+    let f = wireOf b in
+    let some-due = any (λ i. due (r .plan) (r .board) i (r .round)) (r .plan .n) in
+    let (e1, e2) = both-taken (judgeOpen b) _ (ap (λ o. o .number) e) in
+    let on : some-due ≡ true = cases some-due (λ x. x) (λ x. absurd (let z : 16 ≡ 0 = rw x at e2 in let y : ⊥ = omega arith in y)) in
+    let fits : ltb (length out) (length f) ≡ false = passed (ltb (length out) (length f)) (refused 17) _ (omega arith) (rw on at e2) .0 in
+    let answer : judgeSending b out ≡ taken (length f ∷ []) = taken-first (judgeOpen b) _ e1 ∙ rw (on, fits) refl in
+    let size : length f ≡ k = ap (λ (o : Outcome). getD (o .values) 0 0) (sym answer ∙ e) in
+    let written : sending b out .out ≡ f ++ drop (length f) out = rw answer refl in
+    ap₂ take (sym size) written ∙ take-at f (drop (length f) out) (length f) refl
+
+-- A closing is taken exactly if the board is open.
+pub closing-open : (b : Board) → closing b .answer .number ≡ 0 → judgeOpen b .number ≡ 0
+unfolding closing
+closing-open b e = both-taken (judgeOpen b) _ e .0
+
+pub open-closing : (b : Board) → judgeOpen b .number ≡ 0 → closing b .answer .number ≡ 0
+unfolding closing
+open-closing b e = ap (λ o. o .number) (taken-first (judgeOpen b) _ e)
