@@ -151,10 +151,10 @@ def check(name, met, expected):
 
 
 def stack():
-    """Every kept sheet prints as ever with the stack that README.md names."""
-    named = re.search(r"stack of ([0-9]+) KiB", pathlib.Path("README.md").read_text(encoding="utf-8"))
+    """Every kept sheet prints as ever with the stack that docs/SHEETS.md names."""
+    named = re.search(r"stack of ([0-9]+) KiB", pathlib.Path("docs/SHEETS.md").read_text(encoding="utf-8"))
     if not named:
-        check("stack in README.md", None, "a stack of N KiB")
+        check("stack in docs/SHEETS.md", None, "a stack of N KiB")
         return
     size = int(named.group(1)) * 1024
     for path in sorted(pathlib.Path("tests/corpus").glob("*.sheet")):
