@@ -41,17 +41,22 @@ returns-5 : tie.Need-returns-5
 unfolding verdict refusal admitting
 returns-5 c =
     let b = c .before .before .before in
-    let a = b .before .before .before .before .before .args in
+    let else1 = b .before .before .before in
+    let start = else1 .before .before in
+    let a = start .args in
     let strayed = sym (scanned a.n (a.sets .now) (c .before .before .all-boards .result) (omega arith) (c .before .before .all-boards .ensures)) ∙ sym (c .before .names-other .ensures) ∙ c .if5 .taken in
-    simp (ne-eqb _ _ (b .before .before .before .if1 .left), le-ltb _ _ (b .before .before .if2 .left), ne-eqb _ _ (b .before .if3 .left), le-ltb _ _ (b .if4 .left), strayed)
+    simp (ne-eqb _ _ (else1 .if1 .left), le-ltb _ _ (b .before .before .if2 .left), ne-eqb _ _ (b .before .if3 .left), le-ltb _ _ (b .if4 .left), strayed)
 
 returns-6 : tie.Need-returns-6
 unfolding verdict refusal admitting
 returns-6 c =
-    let b = c .before .before .before .before in
-    let a = b .before .before .before .before .before .args in
-    let fit = sym (scanned a.n (a.sets .now) (c .before .before .before .all-boards .result) (omega arith) (c .before .before .before .all-boards .ensures)) ∙ sym (c .before .before .names-other .ensures) ∙ c .before .if5 .left in
-    simp (ne-eqb _ _ (b .before .before .before .if1 .left), le-ltb _ _ (b .before .before .if2 .left), ne-eqb _ _ (b .before .if3 .left), le-ltb _ _ (b .if4 .left), fit) (c .judge-cover .ensures)
+    let at-all-boards = c .before .before .before in
+    let b = at-all-boards .before in
+    let else1 = b .before .before .before in
+    let start = else1 .before .before in
+    let a = start .args in
+    let fit = sym (scanned a.n (a.sets .now) (at-all-boards .all-boards .result) (omega arith) (at-all-boards .all-boards .ensures)) ∙ sym (c .before .before .names-other .ensures) ∙ c .before .if5 .left in
+    simp (ne-eqb _ _ (else1 .if1 .left), le-ltb _ _ (b .before .before .if2 .left), ne-eqb _ _ (b .before .if3 .left), le-ltb _ _ (b .if4 .left), fit) (c .judge-cover .ensures)
 
 pub admit-spec : {M : Type 1} → statement M
 admit-spec =

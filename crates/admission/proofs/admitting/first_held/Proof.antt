@@ -31,15 +31,19 @@ loop-holds c =
 
 returns : tie.Need-returns Inv-loop μ-loop
 returns c =
-    let a = c .before .before .before .before .before .before .args in
-    let l = c .before .before .before .loop in
+    let at-loop = c .before .before .before in
+    let start = at-loop .before .before .before in
+    let a = start .args in
+    let l = at-loop .loop in
     seek-hit (second a.n (a.sets .now)) (length (a.sets .now)) l.i _ (l .inv .1) (omega arith)
     (ap (λ x. ltb x (length (a.sets .now))) (sym (c .before .second-held .ensures)) ∙ lt-ltb _ _ (c .if1 .taken))
 
 loop-again : tie.Need-loop-again Inv-loop μ-loop
 loop-again c =
-    let a = c .before .before .before .before .before .before .args in
-    let l = c .before .before .before .loop in (
+    let at-loop = c .before .before .before in
+    let start = at-loop .before .before .before in
+    let a = start .args in
+    let l = at-loop .loop in (
       omega arith,
       seek-miss (second a.n (a.sets .now)) (length (a.sets .now)) l.i _ (l .inv .1) (omega arith)
           (ap (λ x. ltb x (length (a.sets .now))) (sym (c .before .second-held .ensures)) ∙ le-ltb _ _ (c .if1 .left)),
@@ -47,8 +51,10 @@ loop-again c =
 
 returns-2 : tie.Need-returns-2 Inv-loop μ-loop
 returns-2 c =
-    let a = c .before .before .before .before .args in
-    let l = c .before .loop in
+    let at-loop = c .before in
+    let start = at-loop .before .before .before in
+    let a = start .args in
+    let l = at-loop .loop in
     seek-none (second a.n (a.sets .now)) (length (a.sets .now)) l.i _ (l .inv .1) (omega arith)
 
 pub first-held-spec : {M : Type 1} → statement M

@@ -18,12 +18,13 @@ use Rattle.admission.proofs.admitting.judge_cover.Tie as tie
 returns : tie.Need-returns
 unfolding verdict covering
 returns c =
-    let s = c .before .before .before .before .before in
+    let at-union-of = c .before .before .before in
+    let s = at-union-of .before .before in
     let n = s .args .n in
     let sets = s .args .sets .now in
     let e : within (boards n) (unionOf sets (length sets)) ≡ false =
     ap (λ x. within (boards x) (unionOf sets (length sets))) (let z : n ≡ min n 8 = omega (arith, s .pre .most-boards) in z)
-    ∙ sym (c .before .within .ensures ∙ ap₂ within (c .before .before .all-boards .ensures) (c .before .before .before .union-of .ensures)) ∙ not-t _ (c .if1 .taken) in
+    ∙ sym (c .before .within .ensures ∙ ap₂ within (c .before .before .all-boards .ensures) (at-union-of .union-of .ensures)) ∙ not-t _ (c .if1 .taken) in
     rw (uncovered sets n e)
 
 pub judge-cover-spec : {M : Type 1} → statement M

@@ -29,16 +29,22 @@ loop-holds c =
 
 returns : tie.Need-returns Inv-loop μ-loop
 returns c =
-    let a = c .before .before .before .before .before .before .args in
-    let l = c .before .before .before .before .loop in
-    let hit = seek-hit (other (a.sets .now) a.all) (length (a.sets .now)) l.i _ (l .inv .1) (omega arith) (ap not (sym (c .before .within .ensures)) ∙ c .if1 .taken) in
+    let at-within = c .before in
+    let at-loop = at-within .before .before .before in
+    let start = at-loop .before .before in
+    let a = start .args in
+    let l = at-loop .loop in
+    let hit = seek-hit (other (a.sets .now) a.all) (length (a.sets .now)) l.i _ (l .inv .1) (omega arith) (ap not (sym (at-within .within .ensures)) ∙ c .if1 .taken) in
     sym (any-at (other (a.sets .now) a.all) (length (a.sets .now)) l.i hit ∙ lt-ltb l.i (length (a.sets .now)) (omega arith))
 
 loop-again : tie.Need-loop-again Inv-loop μ-loop
 loop-again c =
-    let a = c .before .before .before .before .before .before .args in
-    let l = c .before .before .before .before .loop in
-    (omega arith, seek-miss (other (a.sets .now) a.all) (length (a.sets .now)) l.i _ (l .inv .1) (omega arith) (ap not (sym (c .before .within .ensures)) ∙ c .if1 .left))
+    let at-within = c .before in
+    let at-loop = at-within .before .before .before in
+    let start = at-loop .before .before in
+    let a = start .args in
+    let l = at-loop .loop in
+    (omega arith, seek-miss (other (a.sets .now) a.all) (length (a.sets .now)) l.i _ (l .inv .1) (omega arith) (ap not (sym (at-within .within .ensures)) ∙ c .if1 .left))
 
 returns-2 : tie.Need-returns-2 Inv-loop μ-loop
 returns-2 c =

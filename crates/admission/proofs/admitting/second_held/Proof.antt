@@ -29,15 +29,19 @@ loop-holds c = (search needs, refl)
 
 returns : tie.Need-returns Inv-loop μ-loop
 returns c =
-    let a = c .before .before .before .before .before .before .args in
-    let l = c .before .before .before .loop in
+    let at-loop = c .before .before .before in
+    let start = at-loop .before .before .before in
+    let a = start .args in
+    let l = at-loop .loop in
     seek-hit (held a.n (a.sets .now) a.i) (length (a.sets .now)) l.j _ (l .inv .1) (omega arith)
     (held-hit a.n (a.sets .now) a.i l.j (c .before .third-held .result) (search needs) (c .before .third-held .ensures) (c .if1 .taken))
 
 loop-again : tie.Need-loop-again Inv-loop μ-loop
 loop-again c =
-    let a = c .before .before .before .before .before .before .args in
-    let l = c .before .before .before .loop in (
+    let at-loop = c .before .before .before in
+    let start = at-loop .before .before .before in
+    let a = start .args in
+    let l = at-loop .loop in (
       omega arith,
       seek-miss (held a.n (a.sets .now) a.i) (length (a.sets .now)) l.j _ (l .inv .1) (omega arith)
           (held-miss a.n (a.sets .now) a.i l.j (c .before .third-held .result) (search needs) (c .before .third-held .ensures) (c .if1 .left)),
@@ -45,8 +49,10 @@ loop-again c =
 
 returns-2 : tie.Need-returns-2 Inv-loop μ-loop
 returns-2 c =
-    let a = c .before .before .before .before .args in
-    let l = c .before .loop in
+    let at-loop = c .before in
+    let start = at-loop .before .before .before in
+    let a = start .args in
+    let l = at-loop .loop in
     seek-none (held a.n (a.sets .now) a.i) (length (a.sets .now)) l.j _ (l .inv .1) (omega arith)
 
 pub second-held-spec : {M : Type 1} → statement M

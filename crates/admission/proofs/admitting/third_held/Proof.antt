@@ -7,16 +7,20 @@ use Rattle.admission.proofs.admitting.third_held.Tie as tie
 shared-slice-read-result : tie.Need-shared-slice-read-result
 unfolding union
 shared-slice-read-result c =
-    let s = c .before .before .before .before .before .before in
+    let at-outside-of = c .before in
+    let at-shared-slice-known2 = at-outside-of .before .before .before in
+    let s = at-shared-slice-known2 .before .before in
     let a = s .args in
-    third-read a.n (a.sets .now) (a.holders .now) a.i a.j (c .before .outside-of .result) (s .pre .tabled) (c .before .outside-of .ensures) .0
+    third-read a.n (a.sets .now) (a.holders .now) a.i a.j (at-outside-of .outside-of .result) (s .pre .tabled) (at-outside-of .outside-of .ensures) .0
 
 returns : tie.Need-returns
 unfolding union
 returns c =
-    let s = c .before .before .before .before .before .before in
+    let at-outside-of = c .before in
+    let at-shared-slice-known2 = at-outside-of .before .before .before in
+    let s = at-shared-slice-known2 .before .before in
     let a = s .args in
-    third-read a.n (a.sets .now) (a.holders .now) a.i a.j (c .before .outside-of .result) (s .pre .tabled) (c .before .outside-of .ensures) .1
+    third-read a.n (a.sets .now) (a.holders .now) a.i a.j (at-outside-of .outside-of .result) (s .pre .tabled) (at-outside-of .outside-of .ensures) .1
 
 pub third-held-spec : {M : Type 1} → statement M
 third-held-spec =

@@ -29,20 +29,28 @@ loop-holds c =
 
 shared-slice-read-value : tie.Need-shared-slice-read-value Inv-loop μ-loop
 shared-slice-read-value c =
-    let l = c .before .before .before .before .loop in
-    let e = c .before .before .before .before .before .before in
-    omega (arith, l .inv .1, e .pre .1 l.c (omega arith) (sym (c .before .before .member .ensures) ∙ not-t _ (c .before .if1 .taken)))
+    let at-member = c .before .before in
+    let at-loop = at-member .before .before in
+    let e = at-loop .before .before in
+    let l = at-loop .loop in
+    omega (arith, l .inv .1, e .pre .1 l.c (omega arith) (sym (at-member .member .ensures) ∙ not-t _ (c .before .if1 .taken)))
 
 array-write-values : tie.Need-array-write-values Inv-loop μ-loop
-array-write-values c = let e = c .before .before .before .before .before .before .before in omega (arith, e .pre .0)
+array-write-values c =
+    let at-member = c .before .before .before in
+    let at-loop = at-member .before .before in
+    let e = at-loop .before .before in
+    omega (arith, e .pre .0)
 
 add-at : tie.Need-add-at Inv-loop μ-loop
 add-at c = record { fits = omega (arith, shared-slice-read-value (c .before)) }
 
 loop-again : tie.Need-loop-again Inv-loop μ-loop
 loop-again c =
-    let l = c .before .before .before .loop in
-    let a = c .before .before .before .before .before .args in
+    let at-loop = c .before .before .before in
+    let start = at-loop .before .before in
+    let l = at-loop .loop in
+    let a = start .args in
     let m = sym (c .before .member .ensures) in
     ⊎-elim
     (λ w. (

@@ -19,34 +19,47 @@ use Rattle.detection.proofs.rule_g.detect_at.Tie as tie
 
 returns : tie.Need-returns
 returns c =
-    let a = c .before .before .before .before .before .before .args in
+    let at-passes-at = c .before in
+    let at-passes-at-arg = at-passes-at .before in
+    let at-shared-slice-known = at-passes-at-arg .before .before .before in
+    let start = at-shared-slice-known .before in
+    let a = start .args in
     let now : Scan = record { detected = a.list; cells = a.cells .now } in
-    let kept = sym (detect-kept a.plan a.board a.run a.round (nodeAt a.plan (a.round .0 - 1) a.node) now (sym (c .before .passes-at .ensures) ∙ c .if1 .taken)) in
+    let kept = sym (detect-kept a.plan a.board a.run a.round (nodeAt a.plan (a.round .0 - 1) a.node) now (sym (at-passes-at .passes-at .ensures) ∙ c .if1 .taken)) in
     (ap (λ (s : Scan). s .detected) kept, ap (λ (s : Scan). s .cells) kept)
 
 silence-requires : tie.Need-silence-requires
 silence-requires c κs =
-    let e = c .before .before .before .before .before .before .before .before in
-    (e .pre .0, e .pre .1, omega (arith, c .before .last-of .ensures, end-below (e .pre .2)), e .pre .2 .enough)
+    let at-last-of = c .before in
+    let at-passes-at-arg = at-last-of .before .before .before in
+    let at-shared-slice-known = at-passes-at-arg .before .before .before in
+    let e = at-shared-slice-known .before in
+    (e .pre .0, e .pre .1, omega (arith, at-last-of .last-of .ensures, end-below (e .pre .2)), e .pre .2 .enough)
 
 join-requires : tie.Need-join-requires
 join-requires c κs =
-    let found = c .before .before .before .before .before in
-    let e = found .before .before .before .before .before .before .before in
+    let at-silence = c .before .before .before in
+    let found = at-silence .before .before in
+    let at-passes-at-arg = found .before .before .before in
+    let at-shared-slice-known = at-passes-at-arg .before .before .before in
+    let e = at-shared-slice-known .before in
     omega (arith, found .last-of .ensures, end-below (e .pre .2), e .pre .0 .most-boards)
 
 returns-2 : tie.Need-returns-2
 returns-2 c =
     let listed = c .before .before .before in
     let found = listed .before .before .before in
-    let e = found .before .before .before .before .before .before .before in
+    let at-passes-at = found .before .before in
+    let at-passes-at-arg = at-passes-at .before in
+    let at-shared-slice-known = at-passes-at-arg .before .before .before in
+    let e = at-shared-slice-known .before in
     let a = e .args in
     let v = e .pre .2 in
     let α = nodeAt a.plan (a.round .0 - 1) a.node in
     let now : Scan = record { detected = a.list; cells = a.cells .now } in
     let end : found .last-of .result ≡ last α = found .last-of .ensures ∙ v .is-node .end in
     let below : last α < a.plan .n = omega (arith, v .is-node .end, end-below v) in
-    let joined = detect-joined a.plan a.board a.run a.round α now (sym (found .before .before .passes-at .ensures) ∙ found .before .if1 .left) in (
+    let joined = detect-joined a.plan a.board a.run a.round α now (sym (at-passes-at .passes-at .ensures) ∙ found .before .if1 .left) in (
       c .join .ensures
           ∙ ap₂ (λ q level. join q a.run a.round Rule.G level a.list) end (sym (label-level v))
           ∙ sym (ap (λ (s : Scan). s .detected) joined),

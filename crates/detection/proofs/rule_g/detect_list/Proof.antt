@@ -30,21 +30,32 @@ loop-holds c = (omega arith, refl, refl)
 
 detect-at-requires : tie.Need-detect-at-requires Inv-loop μ-loop
 detect-at-requires c κs =
-    let e = c .before .before .before .before .before .before .before .before in
-    let l = c .before .before .before .loop in
-    let h : Fits w8 (e .args .plan .span) = search needs in (
+    let e =
+    let at-loop = c .before .before .before in
+    let at-known = at-loop .before .before .before in
+    at-known .before .before in
+    let h : Fits w8 (e .args .plan .span) = search needs in
+    let at-loop = c .before .before .before in
+    let at-level-start = at-loop .before in
+    let l = at-loop .loop in (
       e .pre .0,
       e .pre .1,
-      visiting (e .pre .0) (omega (arith, h .fits)) (e .args .nodes .now) (e .pre .3) (e .pre .4) l.i (c .before .before .before .before .level-start .result) l.cells (omega arith)
-          (c .before .before .before .before .level-start .ensures) (omega (arith, e .pre .2, l .inv .1)),
+      visiting (e .pre .0) (omega (arith, h .fits)) (e .args .nodes .now) (e .pre .3) (e .pre .4) l.i (at-level-start .level-start .result) l.cells (omega arith)
+          (at-level-start .level-start .ensures) (omega (arith, e .pre .2, l .inv .1)),
     )
 
 loop-again : tie.Need-loop-again Inv-loop μ-loop
 unfolding detectAllG
 loop-again c =
-    let l = c .before .before .before .before .before .before .loop in
-    let a = c .before .before .before .before .before .before .before .before .before .before .before .args in
-    let x = c .before .before .detect-at in
+    let at-detect-at = c .before .before in
+    let in-loop = at-detect-at .before .before .before in
+    let at-loop = in-loop .before in
+    let at-level-start = at-loop .before in
+    let at-shared-slice-known = at-level-start .before .before .before in
+    let start = at-shared-slice-known .before in
+    let l = at-loop .loop in
+    let a = start .args in
+    let x = at-detect-at .detect-at in
     let level = a.round .0 - 1 in
     let α = nodeAt a.plan level (getD (a.nodes .now) l.i 0) in
     let αs = labelsOf a.plan level (a.nodes .now) in
@@ -60,8 +71,12 @@ loop-again c =
 returns : tie.Need-returns Inv-loop μ-loop
 unfolding detectAllG
 returns c =
-    let l = c .before .loop in
-    let a = c .before .before .before .before .before .before .args in
+    let at-loop = c .before in
+    let at-level-start = at-loop .before in
+    let at-shared-slice-known = at-level-start .before .before .before in
+    let start = at-shared-slice-known .before in
+    let l = at-loop .loop in
+    let a = start .args in
     let αs = labelsOf a.plan (a.round .0 - 1) (a.nodes .now) in
     let end : drop l.i αs ≡ [] = drop-of-length-le αs (let z : length αs ≤ l.i = omega (arith, labels-length a.plan (a.round .0 - 1) (a.nodes .now)) in z) in
     let done = sym (ap (λ βs. detectAllG a.plan a.board a.run a.round βs (record { detected = l.detected; cells = l.cells })) end) ∙ l .inv .2 in

@@ -14,41 +14,66 @@ use Rattle.filling.proofs.filling.copy_own.Tie as tie
 
 carried-nodes-requires : tie.Need-carried-nodes-requires
 carried-nodes-requires c κs =
-    let e = c .before .before .before .before in
+    let at-shared-slice-known = c .before .before .before in
+    let e = at-shared-slice-known .before in
     carried-walkable (e .pre .0) (e .pre .1) (e .args .board) (e .pre .0 .board-below) _ refl
 
 part-write-at-end : tie.Need-part-write-at-end
 part-write-at-end c =
-    let e = c .before .before .before .before .before .before .before in
-    let x = c .before .before .carried-nodes in
+    let at-carried-nodes = c .before .before in
+    let at-nodes = at-carried-nodes .before in
+    let at-shared-slice-known = at-nodes .before .before .before in
+    let e = at-shared-slice-known .before in
+    let x = at-carried-nodes .carried-nodes in
     front-fits (e .pre .0) (e .pre .1) (e .args .board) (x .ensures) (e .pre .0 .board-below) (x .kept .1 .1 .1 .1 .1 .0)
 
 write-at-requires : tie.Need-write-at-requires
 write-at-requires c κs =
-    let e = c .before .before .before .before .before .before .before .before .before .before in
-    let x = c .before .before .before .before .before .carried-nodes in
+    let at-nodes3 = c .before .before .before in
+    let at-carried-nodes = at-nodes3 .before .before in
+    let at-nodes = at-carried-nodes .before in
+    let at-shared-slice-known = at-nodes .before .before .before in
+    let e = at-shared-slice-known .before in
+    let x = at-carried-nodes .carried-nodes in
     let few = front-few (e .pre .0) (e .pre .1) (e .args .board) (x .ensures) (e .pre .0 .board-below) in
     (front-nodes (e .pre .0) (e .pre .1) (e .args .board) (x .ensures), e .pre .2, omega (arith, few))
 
 part-store-at-end : tie.Need-part-store-at-end
 part-store-at-end c =
-    let e = c .before .before .before .before .before .before .before .before .before .before .before .before .before in
-    let x = c .before .before .before .before .before .before .before .before .carried-nodes in
+    let at-own = c .before .before .before in
+    let at-nodes3 = at-own .before .before .before in
+    let at-carried-nodes = at-nodes3 .before .before in
+    let at-nodes = at-carried-nodes .before in
+    let at-shared-slice-known = at-nodes .before .before .before in
+    let e = at-shared-slice-known .before in
+    let x = at-carried-nodes .carried-nodes in
     front-fits (e .pre .0) (e .pre .1) (e .args .board) (x .ensures) (e .pre .0 .board-below) (x .kept .1 .1 .1 .1 .1 .0)
 
 part-store-at-end-2 : tie.Need-part-store-at-end-2
 part-store-at-end-2 c =
-    let e = c .before .before .before .before .before .before .before .before .before .before .before .before .before .before .before in
-    let x = c .before .before .before .before .before .before .before .before .before .before .carried-nodes in
-    let y = c .before .before .before .before .write-at in
+    let at-own2 = c .before .before .before in
+    let at-write-at = at-own2 .before in
+    let at-write-at-arg = at-write-at .before .before .before in
+    let at-carried-nodes = at-write-at-arg .before .before .before in
+    let at-nodes = at-carried-nodes .before in
+    let at-shared-slice-known = at-nodes .before .before .before in
+    let e = at-shared-slice-known .before in
+    let x = at-carried-nodes .carried-nodes in
+    let y = at-write-at .write-at in
     let fits : width * x .result ≤ length (y .last .1 .1 .1 .1 .0) =
     omega (arith, x .ensures .counted, carried-few (e .args .plan) (e .args .board) (e .args .board) (e .args .round .0 - 1) (e .pre .0 .dealer-below) (e .pre .0 .most-boards) (e .pre .0 .board-below), y .kept .1 .1 .1 .1 .0) in
     fits
 
 store-at-requires : tie.Need-store-at-requires
 store-at-requires c κs =
-    let e = c .before .before .before .before .before .before .before .before .before .before .before .before .before .before .before .before .before in
-    let x = c .before .before .before .before .before .before .before .before .before .before .before .before .carried-nodes in (
+    let at-store-at-arg = c .before .before .before in
+    let at-write-at = at-store-at-arg .before .before .before in
+    let at-write-at-arg = at-write-at .before .before .before in
+    let at-carried-nodes = at-write-at-arg .before .before .before in
+    let at-nodes = at-carried-nodes .before in
+    let at-shared-slice-known = at-nodes .before .before .before in
+    let e = at-shared-slice-known .before in
+    let x = at-carried-nodes .carried-nodes in (
       front-nodes (e .pre .0) (e .pre .1) (e .args .board) (x .ensures),
       front-without (e .pre .0) (e .pre .1) (e .args .board) (x .ensures),
       e .pre .0 .board-below,
@@ -57,11 +82,19 @@ store-at-requires c κs =
 
 returns : tie.Need-returns
 returns c =
-    let e = c .before .before .before .before .before .before .before .before .before .before .before .before .before .before .before .before .before .before .before .before in
+    let at-store-at = c .before .before in
+    let at-own3 = at-store-at .before .before .before in
+    let at-own2 = at-own3 .before .before .before in
+    let at-write-at = at-own2 .before in
+    let at-write-at-arg = at-write-at .before .before .before in
+    let at-carried-nodes = at-write-at-arg .before .before .before in
+    let at-nodes = at-carried-nodes .before in
+    let at-shared-slice-known = at-nodes .before .before .before in
+    let e = at-shared-slice-known .before in
     let a = e .args in
-    let x = c .before .before .before .before .before .before .before .before .before .before .before .before .before .before .before .carried-nodes in
-    let y = c .before .before .before .before .before .before .before .before .before .write-at in
-    c .before .before .store-at .ensures
+    let x = at-carried-nodes .carried-nodes in
+    let y = at-write-at .write-at in
+    at-store-at .store-at .ensures
     ∙ own-copied (e .pre .0) (e .pre .1) (a.cells .now) (x .result) (take (x .result - 0) (x .last .1 .1 .1 .1 .1 .0)) (y .last .1 .1 .1 .1 .0) _ (x .ensures .counted)
     (front-labels (e .pre .0) (e .pre .1) a.board (x .ensures)) (y .ensures)
 

@@ -27,13 +27,16 @@ loop-holds c = (omega arith, refl, refl)
 
 silence-requires : tie.Need-silence-requires Inv-loop μ-loop
 silence-requires c κs =
-    let e = c .before .before .before .before .before .before .before .before in
-    (e .pre .0, e .pre .1, omega arith, omega (arith, e .pre .2, c .before .before .before .before .before .loop .inv .1))
+    let then1 = c .before .before .before in
+    let at-loop = then1 .before .before in
+    let e = at-loop .before .before .before in
+    (e .pre .0, e .pre .1, omega arith, omega (arith, e .pre .2, at-loop .loop .inv .1))
 
 loop-again : tie.Need-loop-again Inv-loop μ-loop
 loop-again c =
-    let l = c .before .before .loop in
-    let e = c .before .before .before .before .before in
+    let at-loop = c .before .before in
+    let e = at-loop .before .before .before in
+    let l = at-loop .loop in
     let a = e .args in
     let more = missing-stored (e .pre .0) a.taken l.q (omega arith) (a.cells .now) in
     ⊎-elim
@@ -56,8 +59,10 @@ loop-again c =
 
 returns : tie.Need-returns Inv-loop μ-loop
 returns c =
-    let l = c .before .loop in
-    let a = c .before .before .before .before .args in
+    let at-loop = c .before in
+    let start = at-loop .before .before .before in
+    let l = at-loop .loop in
+    let a = start .args in
     l .inv .2 ∙ ap (λ k. fillMissing a.plan a.board a.round a.taken k (a.cells .now)) (let z : l.q ≡ a.plan .n = omega arith in z)
 
 pub fill-missing-spec : {M : Type 1} → statement M

@@ -10,19 +10,27 @@ use Rattle.filling.proofs.filling.silence.Tie as tie
 
 carried-nodes-requires : tie.Need-carried-nodes-requires
 carried-nodes-requires c κs =
-    let e = c .before .before .before .before in
+    let at-shared-slice-known = c .before .before .before in
+    let e = at-shared-slice-known .before in
     carried-walkable (e .pre .0) (e .pre .1) (e .args .q) (e .pre .2) _ refl
 
 part-store-at-end : tie.Need-part-store-at-end
 part-store-at-end c =
-    let e = c .before .before .before .before .before .before .before in
-    let x = c .before .before .carried-nodes in
+    let at-carried-nodes = c .before .before in
+    let at-nodes = at-carried-nodes .before in
+    let at-shared-slice-known = at-nodes .before .before .before in
+    let e = at-shared-slice-known .before in
+    let x = at-carried-nodes .carried-nodes in
     front-fits (e .pre .0) (e .pre .1) (e .args .q) (x .ensures) (e .pre .2) (x .kept .1 .1 .1 .1 .1 .0)
 
 store-at-requires : tie.Need-store-at-requires
 store-at-requires c κs =
-    let e = c .before .before .before .before .before .before .before .before .before .before .before in
-    let l = c .before .before .before .before .before .before .carried-nodes .ensures in (
+    let at-store-at-arg = c .before .before .before in
+    let at-carried-nodes = at-store-at-arg .before .before .before in
+    let at-nodes = at-carried-nodes .before in
+    let at-shared-slice-known = at-nodes .before .before .before in
+    let e = at-shared-slice-known .before in
+    let l = at-carried-nodes .carried-nodes .ensures in (
       front-nodes (e .pre .0) (e .pre .1) (e .args .q) l,
       front-without (e .pre .0) (e .pre .1) (e .args .q) l,
       e .pre .2,
@@ -31,9 +39,15 @@ store-at-requires c κs =
 
 returns : tie.Need-returns
 returns c =
-    let e = c .before .before .before .before .before .before .before .before .before .before .before .before .before .before in
-    let l = c .before .before .before .before .before .before .before .before .before .carried-nodes .ensures in
-    c .before .before .store-at .ensures
+    let at-store-at = c .before .before in
+    let at-nothing = at-store-at .before .before .before in
+    let at-nodes2 = at-nothing .before .before .before in
+    let at-carried-nodes = at-nodes2 .before in
+    let at-nodes = at-carried-nodes .before in
+    let at-shared-slice-known = at-nodes .before .before .before in
+    let e = at-shared-slice-known .before in
+    let l = at-carried-nodes .carried-nodes .ensures in
+    at-store-at .store-at .ensures
     ∙ ap₂ (λ αs vs. fill (e .args .plan) (e .args .q) αs vs (e .args .cells .now))
     (front-labels (e .pre .0) (e .pre .1) (e .args .q) l ∙ sym (sent-carried (e .pre .0) (e .pre .1) (e .args .q))) decode-none
 

@@ -20,30 +20,38 @@ loop-holds c = let a = c .before .before .before .args in (omega arith, decoded-
 
 slice-write-values : tie.Need-slice-write-values Inv-loop μ-loop
 slice-write-values c =
-    let a = c .before .before .before .before .before .before .args in
+    let at-smaller = c .before .before .before in
+    let start = at-smaller .before .before .before in
+    let a = start .args in
     let l = c .before .before .loop in
-    omega (arith, c .before .before .before .smaller .ensures, ap length (l .inv .1), decoded-length (a.digits .now) (a.values .now) l.i (omega (arith, c .before .before .before .smaller .ensures)))
+    omega (arith, at-smaller .smaller .ensures, ap length (l .inv .1), decoded-length (a.digits .now) (a.values .now) l.i (omega (arith, at-smaller .smaller .ensures)))
 
 loop-again : tie.Need-loop-again Inv-loop μ-loop
 loop-again c =
-    let a = c .before .before .before .before .before .before .args in
+    let at-smaller = c .before .before .before in
+    let start = at-smaller .before .before .before in
+    let a = start .args in
     let l = c .before .before .loop in (
       omega arith,
       ap (λ x. set x l.i (c .byte-at .result)) (l .inv .1)
-          ∙ decoded-more (a.digits .now) (a.values .now) l.i (c .byte-at .result) (omega (arith, c .before .before .before .smaller .ensures)) (c .byte-at .ensures),
+          ∙ decoded-more (a.digits .now) (a.values .now) l.i (c .byte-at .result) (omega (arith, at-smaller .smaller .ensures)) (c .byte-at .ensures),
     )
 
 same-length : tie.Need-same-length Inv-loop μ-loop
 same-length c =
-    let a = c .before .before .before .before .before .args in
+    let at-smaller = c .before .before in
+    let start = at-smaller .before .before .before in
+    let a = start .args in
     let l = c .before .loop in
-    ap length (l .inv .1) ∙ decoded-length (a.digits .now) (a.values .now) l.i (omega (arith, c .before .before .smaller .ensures))
+    ap length (l .inv .1) ∙ decoded-length (a.digits .now) (a.values .now) l.i (omega (arith, at-smaller .smaller .ensures))
 
 returns : tie.Need-returns Inv-loop μ-loop
 returns c =
-    let a = c .before .before .before .before .before .args in
+    let at-smaller = c .before .before in
+    let start = at-smaller .before .before .before in
+    let a = start .args in
     let l = c .before .loop in
-    let count = c .before .before .smaller in
+    let count = at-smaller .smaller in
     let e = (let z : l.i ≡ count .result = omega arith in z) ∙ count .ensures in
     (e, l .inv .1 ∙ ap (decoded (a.digits .now) (a.values .now)) e ∙ decoded-all (a.digits .now) (a.values .now))
 

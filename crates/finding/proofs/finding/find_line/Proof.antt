@@ -10,44 +10,58 @@ use Rattle.finding.proofs.finding.find_line.Tie as tie
 
 returns : tie.Need-returns
 returns c =
-    let s = c .before .before .before .before in
+    let at-key = c .before .before in
+    let s = at-key .before .before in
     let a = s .args in
-    let w = c .before .before .key in
+    let w = at-key .key in
     let at = c .before .skip in
     search-end (a.text .now) a.from (at .result) a.run a.round a.sender a.receiver (w .result) (w .ensures) (at .ensures) (c .if1 .taken)
 
 part-key-of-start : tie.Need-part-key-of-start
 part-key-of-start c =
-    let a = c .before .before .before .before .before .args in
-    omega (arith, c .line-end .ensures, stop-ge (a.text .now) (c .before .before .skip .result))
+    let at-skip = c .before .before in
+    let start = at-skip .before .before .before in
+    let a = start .args in
+    omega (arith, c .line-end .ensures, stop-ge (a.text .now) (at-skip .skip .result))
 
 part-key-of-end : tie.Need-part-key-of-end
 part-key-of-end c =
-    let a = c .before .before .before .before .before .args in
-    let at = c .before .before .skip in
+    let at-skip = c .before .before in
+    let start = at-skip .before .before .before in
+    let a = start .args in
+    let at = at-skip .skip in
     omega (arith, c .line-end .ensures, stop-le (a.text .now) (at .result) (omega arith))
 
 returns-2 : tie.Need-returns-2
 returns-2 c =
-    let s = c .before .before .before .before .before .before .before .before in
-    let a = s .args in
-    let w = c .before .before .before .before .before .before .key in
-    let at = c .before .before .before .before .before .skip in
-    let e = c .before .before .before .line-end in
-    let n = c .before .key-of in
+    let start =
+    let at-line-end = c .before .before .before in
+    let at-key = at-line-end .before .before .before in
+    at-key .before .before in
+    let a = start .args in
     let bk : a.round .0 ≤ 255 = search needs in
     let bq : a.sender ≤ 255 = search needs in
     let bi : a.receiver ≤ 255 = search needs in
+    let at-line-end = c .before .before .before in
+    let at-skip = at-line-end .before .before in
+    let at-key = at-skip .before in
+    let w = at-key .key in
+    let at = at-skip .skip in
+    let e = at-line-end .line-end in
+    let n = c .before .key-of in
     search-hit (a.text .now) a.from (at .result) a.run a.round a.sender a.receiver (w .result) (w .ensures) (at .ensures)
     (e .result) (n .result) (e .ensures) (n .ensures) (omega arith) (omega arith) (omega arith) (omega arith) (c .if2 .taken)
 
 returns-3 : tie.Need-returns-3
 returns-3 c =
-    let s = c .before .before .before .before .before .before .before .before in
+    let at-line-end = c .before .before .before in
+    let at-skip = at-line-end .before .before in
+    let at-key = at-skip .before in
+    let s = at-key .before .before in
     let a = s .args in
-    let w = c .before .before .before .before .before .before .key in
-    let at = c .before .before .before .before .before .skip in
-    let e = c .before .before .before .line-end in
+    let w = at-key .key in
+    let at = at-skip .skip in
+    let e = at-line-end .line-end in
     let n = c .before .key-of in
     search-none (a.text .now) a.from (at .result) a.run a.round a.sender a.receiver (w .result) (w .ensures) (at .ensures)
     (e .result) (n .result) (e .ensures) (n .ensures) (omega arith) (s .pre) (c .if2 .left)

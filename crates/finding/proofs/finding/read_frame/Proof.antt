@@ -12,33 +12,46 @@ use Rattle.finding.proofs.finding.read_frame.Tie as tie
 returns : tie.Need-returns
 unfolding foundSays
 returns c =
-    let a = c .before .before .before .before .args in
-    let f = c .before .find-line in
+    let at-find-line = c .before in
+    let start = at-find-line .before .before .before in
+    let a = start .args in
+    let f = at-find-line .find-line in
     read-missing (findFrame a.run a.round a.sender a.receiver (framesFrom (a.text .now) a.from)) (a.text .now) (a.values .now) (f .result) (f .ensures) (c .if1 .taken)
 
 sub-values-of : tie.Need-sub-values-of
 sub-values-of c =
-    let a = c .before .before .before .before .before .args in
-    omega (arith, c .line-end .ensures, stop-ge (a.text .now) (c .before .before .find-line .result))
+    let at-find-line = c .before .before in
+    let start = at-find-line .before .before .before in
+    let a = start .args in
+    omega (arith, c .line-end .ensures, stop-ge (a.text .now) (at-find-line .find-line .result))
 
 part-values-of-start : tie.Need-part-values-of-start
 part-values-of-start c =
-    let a = c .before .before .before .before .before .args in
-    omega (arith, c .line-end .ensures, stop-ge (a.text .now) (c .before .before .find-line .result))
+    let at-find-line = c .before .before in
+    let start = at-find-line .before .before .before in
+    let a = start .args in
+    omega (arith, c .line-end .ensures, stop-ge (a.text .now) (at-find-line .find-line .result))
 
 part-values-of-end : tie.Need-part-values-of-end
 part-values-of-end c =
-    let a = c .before .before .before .before .before .args in
-    omega (arith, c .line-end .ensures, stop-le (a.text .now) (c .before .before .find-line .result) (omega arith))
+    let at-find-line = c .before .before in
+    let start = at-find-line .before .before .before in
+    let a = start .args in
+    omega (arith, c .line-end .ensures, stop-le (a.text .now) (at-find-line .find-line .result) (omega arith))
 
 returns-2 : tie.Need-returns-2
 unfolding foundSays
 returns-2 c =
-    let a = c .before .before .before .before .before .before .before .before .before .before .before .args in
-    let f = c .before .before .before .before .before .before .before .before .find-line in
-    let d = c .before .before .decode in
+    let at-decode = c .before .before in
+    let at-values-of = at-decode .before .before in
+    let at-line-end = at-values-of .before .before in
+    let at-find-line = at-line-end .before .before in
+    let start = at-find-line .before .before .before in
+    let a = start .args in
+    let f = at-find-line .find-line in
+    let d = at-decode .decode in
     read-found (findFrame a.run a.round a.sender a.receiver (framesFrom (a.text .now) a.from)) (a.text .now) (a.values .now) (f .result) (f .ensures) (omega arith)
-    (c .before .before .before .before .before .before .line-end .result) (d .result) _ (d .last .1 .0) (c .before .before .before .before .before .before .line-end .ensures) (c .before .before .before .before .values-of .ensures) (d .ensures .0) (d .ensures .1)
+    (at-line-end .line-end .result) (d .result) _ (d .last .1 .0) (at-line-end .line-end .ensures) (at-values-of .values-of .ensures) (d .ensures .0) (d .ensures .1)
 
 pub read-frame-spec : {M : Type 1} → statement M
 read-frame-spec =

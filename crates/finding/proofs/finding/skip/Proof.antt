@@ -22,39 +22,55 @@ loop-holds c = refl
 
 part-key-of-start : tie.Need-part-key-of-start Inv-loop μ-loop
 part-key-of-start c =
-    let a = c .before .before .before .before .args in
-    omega (arith, c .line-end .ensures, stop-ge (a.text .now) (c .before .before .loop .at))
+    let at-loop = c .before .before in
+    let start = at-loop .before .before in
+    let a = start .args in
+    omega (arith, c .line-end .ensures, stop-ge (a.text .now) (at-loop .loop .at))
 
 part-key-of-end : tie.Need-part-key-of-end Inv-loop μ-loop
 part-key-of-end c =
-    let a = c .before .before .before .before .args in
-    let l = c .before .before .loop in
+    let at-loop = c .before .before in
+    let start = at-loop .before .before in
+    let a = start .args in
+    let l = at-loop .loop in
     omega (arith, c .line-end .ensures, stop-le (a.text .now) l.at (omega arith))
 
 returns : tie.Need-returns Inv-loop μ-loop
 returns c =
-    let a = c .before .before .before .before .before .before .before .args in
-    let l = c .before .before .before .before .before .loop in
-    let e = c .before .before .before .line-end in
+    let at-line-end = c .before .before .before in
+    let at-loop = at-line-end .before .before in
+    let start = at-loop .before .before in
+    let a = start .args in
+    let l = at-loop .loop in
+    let e = at-line-end .line-end in
     skip-stop (a.text .now) l.at (e .result) (c .before .key-of .result) (e .ensures) (c .before .key-of .ensures) a.least (omega arith) (c .if1 .taken) ∙ l .inv
 
 add-at : tie.Need-add-at Inv-loop μ-loop
 add-at c =
-    let a = c .before .before .before .before .before .before .before .args in
-    let l = c .before .before .before .before .before .loop in
-    record { fits = omega (arith, c .before .before .before .line-end .ensures, stop-le (a.text .now) l.at (omega arith)) }
+    let at-line-end = c .before .before .before in
+    let at-loop = at-line-end .before .before in
+    let start = at-loop .before .before in
+    let a = start .args in
+    let l = at-loop .loop in
+    record { fits = omega (arith, at-line-end .line-end .ensures, stop-le (a.text .now) l.at (omega arith)) }
 
 loop-less : tie.Need-loop-less Inv-loop μ-loop
 loop-less c =
-    let a = c .before .before .before .before .before .before .before .args in
-    let l = c .before .before .before .before .before .loop in
-    omega (arith, c .before .before .before .line-end .ensures, stop-ge (a.text .now) l.at)
+    let at-line-end = c .before .before .before in
+    let at-loop = at-line-end .before .before in
+    let start = at-loop .before .before in
+    let a = start .args in
+    let l = at-loop .loop in
+    omega (arith, at-line-end .line-end .ensures, stop-ge (a.text .now) l.at)
 
 loop-again : tie.Need-loop-again Inv-loop μ-loop
 loop-again c =
-    let a = c .before .before .before .before .before .before .before .args in
-    let l = c .before .before .before .before .before .loop in
-    let e = c .before .before .before .line-end in
+    let at-line-end = c .before .before .before in
+    let at-loop = at-line-end .before .before in
+    let start = at-loop .before .before in
+    let a = start .args in
+    let l = at-loop .loop in
+    let e = at-line-end .line-end in
     skip-line (a.text .now) l.at (e .result) (c .before .key-of .result) (e .ensures) (c .before .key-of .ensures) a.least (omega arith) (c .if1 .left) ∙ l .inv
 
 returns-2 : tie.Need-returns-2 Inv-loop μ-loop

@@ -19,21 +19,27 @@ returns-2 c =
 
 returns-3 : tie.Need-returns-3
 returns-3 c =
-    let a = c .before .before .before .before .args in
+    let at-has-round = c .before .before .before in
+    let start = at-has-round .before in
+    let a = start .args in
     no-cells a.plan a.run a.round a.sender a.receiver (c .if3 .taken)
 
 is-due-requires : tie.Need-is-due-requires
 is-due-requires c κs =
-    let asks = c .before .before .before .before .before in
+    let else2 = c .before .before .before in
+    let else1 = else2 .before in
+    let asks = else1 .before in
     let e = asks .before in
-    receiver-stands (e .args .plan) (e .args .run) (e .args .round) (e .args .sender) (e .args .receiver) (e .pre) (sym (asks .has-round .ensures) ∙ not-f _ (c .before .before .before .before .if1 .left))
-    (c .before .before .before .if2 .left) (c .before .before .if3 .left) (c .before .holders .result) (c .before .holders .ensures)
+    receiver-stands (e .args .plan) (e .args .run) (e .args .round) (e .args .sender) (e .args .receiver) (e .pre) (sym (asks .has-round .ensures) ∙ not-f _ (else1 .if1 .left))
+    (else2 .if2 .left) (c .before .before .if3 .left) (c .before .holders .result) (c .before .holders .ensures)
 
 returns-4 : tie.Need-returns-4
 returns-4 c =
-    let asks = c .before .before .before .before .before .before in
+    let else3 = c .before .before .before in
+    let else1 = else3 .before .before in
+    let asks = else1 .before in
     let a = asks .before .args in
-    c .is-due .ensures ∙ is-expected-due a.plan a.run a.round a.sender a.receiver (sym (asks .has-round .ensures) ∙ not-f _ (c .before .before .before .before .before .if1 .left))
+    c .is-due .ensures ∙ is-expected-due a.plan a.run a.round a.sender a.receiver (sym (asks .has-round .ensures) ∙ not-f _ (else1 .if1 .left))
 
 pub is-expected-spec : {M : Type 1} → statement M
 is-expected-spec =

@@ -14,7 +14,8 @@ use Rattle.frame_lines.proofs.line.is_good_frame.Tie as tie
 
 returns : tie.Need-returns
 returns c =
-    let start = c .before .before .before .before .before .before in
+    let at-byte-at2 = c .before .before .before in
+    let start = at-byte-at2 .before .before .before in
     line-short (start .args .plan) (start .args .faulty) (start .args .least) (start .args .line .now) (c .if1 .taken)
 
 returns-2 : tie.Need-returns-2
@@ -22,7 +23,8 @@ unfolding lineKey
 returns-2 c =
     let keyed = c .before in
     let long = keyed .before in
-    let start = long .before .before .before .before .before .before in
+    let at-byte-at2 = long .before .before .before in
+    let start = at-byte-at2 .before .before .before in
     let line = start .args .line .now in
     let k : keyed .key-of .result ≡ lineKey line = keyed .key-of .ensures in
     line-falls (start .args .plan) (start .args .faulty) (start .args .least) line (long .if1 .left) (omega (arith, k, c .if2 .taken))
@@ -34,7 +36,8 @@ returns-3 c =
     let keyed = rising .before in
     let long = keyed .before in
     let read = long .before .before in
-    let start = read .before .before .before .before in
+    let at-byte-at = read .before .before in
+    let start = at-byte-at .before .before in
     let a = start .args in
     let line = a.line .now in
     let k : keyed .key-of .result ≡ lineKey line = keyed .key-of .ensures in
@@ -49,12 +52,14 @@ returns-4 c =
     let keyed = rising .before in
     let long = keyed .before in
     let read = long .before in
-    let start = read .before .before .before .before .before in
+    let at-byte-at3 = read .before in
+    let at-byte-at = at-byte-at3 .before .before in
+    let start = at-byte-at .before .before in
     let a = start .args in
     let line = a.line .now in
     let k : keyed .key-of .result ≡ lineKey line = keyed .key-of .ensures in
     line-faulty a.plan a.faulty a.least line (long .if1 .left) (omega (arith, k, rising .if2 .left))
-    (sym (faulty .before .member .ensures ∙ ap (λ q. member q a.faulty) (read .before .byte-at3 .ensures)) ∙ not-f _ (faulty .if3 .left))
+    (sym (faulty .before .member .ensures ∙ ap (λ q. member q a.faulty) (at-byte-at3 .byte-at3 .ensures)) ∙ not-f _ (faulty .if3 .left))
     (sym (c .before .member2 .ensures ∙ ap (λ q. member q a.faulty) (read .byte-at4 .ensures)) ∙ c .if4 .taken)
 
 returns-5 : tie.Need-returns-5

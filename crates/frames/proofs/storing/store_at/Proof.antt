@@ -28,27 +28,38 @@ loop-holds c = (omega arith, refl, refl)
 
 cast-child-index : tie.Need-cast-child-index Inv-loop μ-loop
 cast-child-index c =
-    let l = c .before .before .before .loop in
-    let e = c .before .before .before .before .before .before .before .before in
+    let at-loop = c .before .before .before in
+    let at-level-start = at-loop .before in
+    let at-shared-slice-known = at-level-start .before .before .before in
+    let e = at-shared-slice-known .before in
+    let l = at-loop .loop in
     let h = node-most (e .pre .0) l.i (omega arith) in
     record { fits = omega (arith, c .index-of .ensures) }
 
 -- The place where the value is stored.
 abbrev Stroke : tie.After-entry-at Inv-loop μ-loop → Type 0
 Stroke c =
-    let at = c .before .before .before .before .before .before in
-    let a = at .before .before .before .before .before .args in
-    let spot = at .before .level-start .result + c .before .child-index .result in
+    let at-child-index = c .before in
+    let at-index-of = at-child-index .before .before in
+    let at = at-index-of .before .before .before in
+    let at-level-start = at .before in
+    let at-shared-slice-known = at-level-start .before .before .before in
+    let start = at-shared-slice-known .before in
+    let a = start .args in
+    let spot = at-level-start .level-start .result + at-child-index .child-index .result in
     (spot ≡ place (a.plan .n) (a.q ∷ nodeAt a.plan a.level (getD (a.nodes .now) (at .loop .i) 0))) × (spot < length (at .loop .cells))
 
 stroke : (c : tie.After-entry-at Inv-loop μ-loop) → Stroke c
 stroke c =
-    let at = c .before .before .before .before .before .before in
-    let e = at .before .before .before .before .before in
-    child-cell (e .pre .0) (at .loop .i) (omega arith) (e .args .q) (at .before .level-start .result) (c .before .child-index .result) (length (at .loop .cells))
-    (e .pre .1) (e .pre .2) (at .before .level-start .ensures)
+    let at-index-of = c .before .before .before in
+    let at = at-index-of .before .before .before in
+    let at-level-start = at .before in
+    let at-shared-slice-known = at-level-start .before .before .before in
+    let e = at-shared-slice-known .before in
+    child-cell (e .pre .0) (at .loop .i) (omega arith) (e .args .q) (at-level-start .level-start .result) (c .before .child-index .result) (length (at .loop .cells))
+    (e .pre .1) (e .pre .2) (at-level-start .level-start .ensures)
     (c .before .child-index .ensures
-    ∙ ap₂ (λ x s. childIndex (e .args .plan .n) (e .args .level) x s (e .args .q)) (c .before .before .before .index-of .ensures) (c .before .before .boards-of .ensures))
+    ∙ ap₂ (λ x s. childIndex (e .args .plan .n) (e .args .level) x s (e .args .q)) (at-index-of .index-of .ensures) (c .before .before .boards-of .ensures))
     (omega (arith, e .pre .3, at .loop .inv .1))
 
 add-cells : tie.Need-add-cells Inv-loop μ-loop
@@ -59,8 +70,13 @@ slice-write-cells c = stroke c .1
 
 loop-again : tie.Need-loop-again Inv-loop μ-loop
 loop-again c =
-    let l = c .before .before .before .before .before .before .loop in
-    let a = c .before .before .before .before .before .before .before .before .before .before .before .args in
+    let at-index-of = c .before .before .before in
+    let at-loop = at-index-of .before .before .before in
+    let at-level-start = at-loop .before in
+    let at-shared-slice-known = at-level-start .before .before .before in
+    let start = at-shared-slice-known .before in
+    let l = at-loop .loop in
+    let a = start .args in
     let αs = labelsOf a.plan a.level (a.nodes .now) in (
       omega arith,
       length-set l.cells _ (c .entry-at .result) ∙ l .inv .1,
@@ -75,8 +91,12 @@ same-length c = c .before .loop .inv .1
 returns : tie.Need-returns Inv-loop μ-loop
 unfolding fill
 returns c =
-    let l = c .before .loop in
-    let a = c .before .before .before .before .before .before .args in
+    let at-loop = c .before in
+    let at-level-start = at-loop .before in
+    let at-shared-slice-known = at-level-start .before .before .before in
+    let start = at-shared-slice-known .before in
+    let l = at-loop .loop in
+    let a = start .args in
     let αs = labelsOf a.plan a.level (a.nodes .now) in
     let end : drop l.i αs ≡ [] = drop-of-length-le αs (let z : length αs ≤ l.i = omega (arith, labels-length a.plan a.level (a.nodes .now)) in z) in
     sym (ap (λ βs. fill a.plan a.q βs (drop l.i (decode (a.frame .now))) l.cells) end) ∙ l .inv .2

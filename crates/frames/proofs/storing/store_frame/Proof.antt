@@ -21,15 +21,22 @@ use Rattle.frames.proofs.storing.store_frame.Tie as tie
 part-store-at-end : tie.Need-part-store-at-end
 part-store-at-end c =
     let made = c .before in
-    let a = made .before .before .before .before .before .args in
+    let at-value-count = made .before in
+    let at-shared-slice-known = at-value-count .before .before .before in
+    let start = at-shared-slice-known .before in
+    let a = start .args in
     let z : made .if1 .length ≤ length (a.frame .now) = ⊎-elim (λ w. omega (arith, w .4)) (λ w. omega (arith, w .1)) (made .if1 .came) in
     z
 
 returns : tie.Need-returns
 returns c =
-    let made = c .before .before .before .before .before .before in
+    let at-store-at = c .before .before in
+    let at-store-at-arg = at-store-at .before .before in
+    let made = at-store-at-arg .before .before in
     let size = made .before in
-    let a = size .before .before .before .before .args in
+    let at-shared-slice-known = size .before .before .before in
+    let start = at-shared-slice-known .before in
+    let a = start .args in
     let αs = labelsOf a.plan a.level (a.nodes .now) in
     let f = a.frame .now in
     let nodes = labels-length a.plan a.level (a.nodes .now) in
@@ -43,7 +50,7 @@ returns c =
     (λ x. counted-misfit a.detected a.q αs (decode f) (λ e. x .left (size .value-count .ensures ∙ e ∙ nodes)))
     (w .0 .came)))
     (made .if1 .came) in
-    c .before .before .store-at .ensures ∙ ap (λ vs. fill a.plan a.q αs vs (a.cells .now)) values
+    at-store-at .store-at .ensures ∙ ap (λ vs. fill a.plan a.q αs vs (a.cells .now)) values
 
 pub store-frame-spec : {M : Type 1} → statement M
 store-frame-spec =

@@ -32,16 +32,21 @@ loop-holds c = (omega arith, refl, written-none _)
 abbrev Own : tie.After-index-of Inv-loop μ-loop → Type 0
 Own c =
     let at = c .before .before .before in
-    let a = at .before .before .before .before .before .args in
-    let spot = at .before .level-start .result + c .index-of .result in
+    let at-level-start = at .before in
+    let at-shared-slice-known = at-level-start .before .before .before in
+    let start = at-shared-slice-known .before in
+    let a = start .args in
+    let spot = at-level-start .level-start .result + c .index-of .result in
     (spot ≡ place (a.plan .n) (nodeAt a.plan a.level (getD (a.nodes .now) (at .loop .i) 0))) × (spot < length (a.cells .now))
 
 own : (c : tie.After-index-of Inv-loop μ-loop) → Own c
 own c =
     let at = c .before .before .before in
-    let e = at .before .before .before .before .before in
-    let spot = own-cell (e .pre .0) (at .loop .i) (omega arith) (at .before .level-start .result) (length (e .args .cells .now)) (at .before .level-start .ensures) (e .pre .1) in
-    let z = ap (λ x. at .before .level-start .result + x) (c .index-of .ensures) in
+    let at-level-start = at .before in
+    let at-shared-slice-known = at-level-start .before .before .before in
+    let e = at-shared-slice-known .before in
+    let spot = own-cell (e .pre .0) (at .loop .i) (omega arith) (at-level-start .level-start .result) (length (e .args .cells .now)) (at-level-start .level-start .ensures) (e .pre .1) in
+    let z = ap (λ x. at-level-start .level-start .result + x) (c .index-of .ensures) in
     (z ∙ spot .0, omega (arith, z, spot .1))
 
 add-value : tie.Need-add-value Inv-loop μ-loop
@@ -54,7 +59,9 @@ put-value-requires : tie.Need-put-value-requires Inv-loop μ-loop
 put-value-requires c κs =
     let indexed = c .before .before .before in
     let at = indexed .before .before .before in
-    let e = at .before .before .before .before .before in
+    let at-level-start = at .before in
+    let at-shared-slice-known = at-level-start .before .before .before in
+    let e = at-shared-slice-known .before in
     omega (arith, at .loop .inv .1, e .pre .2)
 
 loop-again : tie.Need-loop-again Inv-loop μ-loop
@@ -63,8 +70,11 @@ loop-again c =
     let valued = written-out .before .before in
     let indexed = valued .before .before in
     let at = indexed .before .before .before in
+    let at-level-start = at .before in
+    let at-shared-slice-known = at-level-start .before .before .before in
+    let start = at-shared-slice-known .before in
     let l = at .loop in
-    let a = at .before .before .before .before .before .args in
+    let a = start .args in
     let αs = labelsOf a.plan a.level (a.nodes .now) in
     let spot = own indexed in
     let here = nodeAt a.plan a.level (getD (a.nodes .now) l.i 0) in
@@ -83,8 +93,12 @@ same-length c = c .before .loop .inv .1
 
 returns : tie.Need-returns Inv-loop μ-loop
 returns c =
-    let l = c .before .loop in
-    let a = c .before .before .before .before .before .before .args in
+    let at-loop = c .before in
+    let at-level-start = at-loop .before in
+    let at-shared-slice-known = at-level-start .before .before .before in
+    let start = at-shared-slice-known .before in
+    let l = at-loop .loop in
+    let a = start .args in
     let αs = labelsOf a.plan a.level (a.nodes .now) in
     let size = labels-length a.plan a.level (a.nodes .now) in
     let end : l.i ≡ length (a.nodes .now) = omega arith in

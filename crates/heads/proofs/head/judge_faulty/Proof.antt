@@ -34,7 +34,8 @@ inside c = sym (named (c .before)) ∙ not-f _ (c .if1 .left)
 
 small : (c : tie.Else1) → c .before .before .before .before .before .args .faulty < 128
 small c =
-    let known = c .before .before .before .before in
+    let at-at-most-seven = c .before .before .before in
+    let known = at-at-most-seven .before in
     let a = known .before .args in
     let most : 2 ^ min a.n 7 ≤ 2 ^ 7 = pow-mono (let z : min a.n 7 ≤ 7 = omega arith in z) in
     omega (arith, within-boards (min a.n 7) a.faulty (inside c))
@@ -50,16 +51,23 @@ held : (c : tie.After-holds)
 held c =
     let made = c .before .before in
     let left = made .before in
-    let e = left .before .before .before .before .before in
+    let at-at-most-seven = left .before .before .before in
+    let e = at-at-most-seven .before .before in
     c .holds .ensures ∙ table-tolerated (e .args .sets .now) (made .holders-of .result) (e .args .faulty) (made .holders-of .ensures) (e .pre) (small left)
 
 returns-2 : tie.Need-returns-2
 unfolding verdict refusal
-returns-2 c = rw (inside (c .before .before .before .before), sym (held (c .before)) ∙ c .if2 .taken) refl
+returns-2 c =
+    let at-holds = c .before in
+    let else1 = at-holds .before .before .before in
+    rw (inside (else1), sym (held (at-holds)) ∙ c .if2 .taken) refl
 
 returns-3 : tie.Need-returns-3
 unfolding verdict refusal
-returns-3 c = rw (inside (c .before .before .before .before), sym (held (c .before)) ∙ c .if2 .left) refl
+returns-3 c =
+    let at-holds = c .before in
+    let else1 = at-holds .before .before .before in
+    rw (inside (else1), sym (held (at-holds)) ∙ c .if2 .left) refl
 
 pub judge-faulty-spec : {M : Type 1} → statement M
 judge-faulty-spec =

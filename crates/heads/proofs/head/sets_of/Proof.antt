@@ -20,8 +20,10 @@ loop-holds c = (omega arith, slots-start (c .before .args .line .now))
 
 loop-again : tie.Need-loop-again Inv-loop μ-loop
 loop-again c =
-    let line = c .before .before .before .before .args .line .now in
-    let l = c .before .before .loop in
+    let at-loop = c .before .before in
+    let start = at-loop .before .before in
+    let line = start .args .line .now in
+    let l = at-loop .loop in
     (omega arith, ap₂ (λ x v. set x l.k v) (l .inv .1) (c .byte-at .ensures) ∙ slots-more line l.k (omega arith))
 
 returns : tie.Need-returns Inv-loop μ-loop

@@ -16,37 +16,56 @@ returns c =
 
 returns-2 : tie.Need-returns-2
 returns-2 c =
-    let a = c .before .before .before .before .before .before .before .args in
-    let h = c .before .before .before .digit-of in
+    let at-digit-of = c .before .before .before in
+    let else1 = at-digit-of .before .before in
+    let start = else1 .before .before in
+    let a = start .args in
+    let h = at-digit-of .digit-of in
     let l = c .before .digit-of2 in
     byte-no-high (a.line .now) a.k (h .result) (l .result) (h .ensures) (l .ensures) (c .if2 .taken)
 
 returns-3 : tie.Need-returns-3
 returns-3 c =
-    let a = c .before .before .before .before .before .before .before .before .args in
-    let h = c .before .before .before .before .digit-of in
-    let l = c .before .before .digit-of2 in
+    let at-digit-of2 = c .before .before in
+    let at-digit-of = at-digit-of2 .before .before in
+    let else1 = at-digit-of .before .before in
+    let start = else1 .before .before in
+    let a = start .args in
+    let h = at-digit-of .digit-of in
+    let l = at-digit-of2 .digit-of2 in
     byte-no-low (a.line .now) a.k (h .result) (l .result) (h .ensures) (l .ensures) (c .if3 .taken)
 
 mul-result : tie.Need-mul-result
 mul-result c =
-    let a = c .before .before .before .before .before .before .before .before .args in
-    let h = c .before .before .before .before .digit-of in
-    let l = c .before .before .digit-of2 in
+    let at-digit-of2 = c .before .before in
+    let at-digit-of = at-digit-of2 .before .before in
+    let else1 = at-digit-of .before .before in
+    let start = else1 .before .before in
+    let a = start .args in
+    let h = at-digit-of .digit-of in
+    let l = at-digit-of2 .digit-of2 in
     record { fits = omega (arith, h .ensures, digit-below (getD (a.line .now) (2 * a.k) 0) (λ z. c .before .if2 .left (h .ensures ∙ z))) }
 
 add-result : tie.Need-add-result
 add-result c =
-    let a = c .before .before .before .before .before .before .before .before .args in
-    let h = c .before .before .before .before .digit-of in
-    let l = c .before .before .digit-of2 in
+    let at-digit-of2 = c .before .before in
+    let at-digit-of = at-digit-of2 .before .before in
+    let else1 = at-digit-of .before .before in
+    let start = else1 .before .before in
+    let a = start .args in
+    let h = at-digit-of .digit-of in
+    let l = at-digit-of2 .digit-of2 in
     record { fits = omega (arith, h .ensures, digit-below (getD (a.line .now) (2 * a.k) 0) (λ z. c .before .if2 .left (h .ensures ∙ z)), l .ensures, digit-below (getD (a.line .now) (2 * a.k + 1) 0) (λ z. c .if3 .left (l .ensures ∙ z))) }
 
 returns-4 : tie.Need-returns-4
 returns-4 c =
-    let a = c .before .before .before .before .before .before .before .before .args in
-    let h = c .before .before .before .before .digit-of in
-    let l = c .before .before .digit-of2 in
+    let at-digit-of2 = c .before .before in
+    let at-digit-of = at-digit-of2 .before .before in
+    let else1 = at-digit-of .before .before in
+    let start = else1 .before .before in
+    let a = start .args in
+    let h = at-digit-of .digit-of in
+    let l = at-digit-of2 .digit-of2 in
     byte-both (a.line .now) a.k (h .result) (l .result) (h .ensures) (l .ensures) (c .before .if2 .left) (c .if3 .left)
 
 pub byte-at-spec : {M : Type 1} → statement M

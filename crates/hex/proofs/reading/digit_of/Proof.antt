@@ -23,11 +23,17 @@ returns-3 c = sym (ap (λ o. Option·getD o 255) (digit-between (c .before .befo
 
 returns-4 : tie.Need-returns-4
 unfolding digitOr
-returns-4 c = sym (ap (λ o. Option·getD o 255) (digit-letter (c .before .before .before .before .args .c) (c .before .if3 .left) (c .if4 .taken)))
+returns-4 c =
+    let else3 = c .before in
+    let start = else3 .before .before .before in
+    sym (ap (λ o. Option·getD o 255) (digit-letter (start .args .c) (else3 .if3 .left) (c .if4 .taken)))
 
 returns-5 : tie.Need-returns-5
 unfolding digitOr
-returns-5 c = sym (ap (λ o. Option·getD o 255) (digit-high (c .before .before .before .before .args .c) (c .if4 .left)))
+returns-5 c =
+    let else1 = c .before .before .before in
+    let start = else1 .before in
+    sym (ap (λ o. Option·getD o 255) (digit-high (start .args .c) (c .if4 .left)))
 
 pub digit-of-spec : {M : Type 1} → statement M
 digit-of-spec = tie.close (tie.spec returns returns-2 returns-3 (λ c. search needs) returns-4 returns-5)

@@ -29,24 +29,32 @@ loop-holds c = (omega arith, λ k l. absurd (omega arith))
 
 returns-2 : tie.Need-returns-2 Inv-loop μ-loop
 returns-2 c =
-    let line = c .before .before .before .before .before .before .before .args .line .now in
-    let i = c .before .before .before .before .loop .i in
-    sym (text-other line i (omega arith) (digit-none (getD line i 0) (sym (c .before .digit-of .ensures) ∙ c .if2 .taken)))
+    let at-digit-of = c .before in
+    let at-loop = at-digit-of .before .before .before in
+    let start = at-loop .before .before .before in
+    let line = start .args .line .now in
+    let i = at-loop .loop .i in
+    sym (text-other line i (omega arith) (digit-none (getD line i 0) (sym (at-digit-of .digit-of .ensures) ∙ c .if2 .taken)))
 
 loop-again : tie.Need-loop-again Inv-loop μ-loop
 loop-again c =
-    let line = c .before .before .before .before .before .before .before .args .line .now in
-    let l = c .before .before .before .before .loop in (
+    let at-digit-of = c .before in
+    let at-loop = at-digit-of .before .before .before in
+    let start = at-loop .before .before .before in
+    let line = start .args .line .now in
+    let l = at-loop .loop in (
       l .inv .0,
       λ k h. cases (eqb k l.i)
-          (λ x. subst (λ m. digit (getD line m 0) ≢ none) (sym (eqb-true k l.i x)) (digit-some (getD line l.i 0) (λ z. c .if2 .left (c .before .digit-of .ensures ∙ z))))
+          (λ x. subst (λ m. digit (getD line m 0) ≢ none) (sym (eqb-true k l.i x)) (digit-some (getD line l.i 0) (λ z. c .if2 .left (at-digit-of .digit-of .ensures ∙ z))))
           (λ x. let ne : k ≢ l.i = eqb-false k l.i x in l .inv .1 k (omega arith)),
     )
 
 returns-3 : tie.Need-returns-3 Inv-loop μ-loop
 returns-3 c =
-    let line = c .before .before .before .before .args .line .now in
-    let l = c .before .loop in
+    let at-loop = c .before in
+    let start = at-loop .before .before .before in
+    let line = start .args .line .now in
+    let l = at-loop .loop in
     sym (text-all line (l .inv .0) (λ k h. l .inv .1 k (omega arith)))
 
 pub is-text-spec : {M : Type 1} → statement M

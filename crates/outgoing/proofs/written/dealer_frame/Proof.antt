@@ -13,16 +13,20 @@ use Rattle.outgoing.proofs.written.dealer_frame.Tie as tie
 returns : tie.Need-returns
 unfolding dealtSays
 returns c =
-    let a = c .before .before .before .before .before .before .args in
+    let at-deal = c .before .before .before in
+    let start = at-deal .before .before .before in
+    let a = start .args in
     let v = c .before .v .given .0 .0 in
-    let e = ap dealtSays (sym (c .before .v .given .1)) ∙ c .before .before .before .deal .ensures in
-    (omega arith, take-suc-set (a.frame .now) 0 v (c .before .before .before .before .before .before .pre) ∙ dealt-taken a.head v e)
+    let e = ap dealtSays (sym (c .before .v .given .1)) ∙ at-deal .deal .ensures in
+    (omega arith, take-suc-set (a.frame .now) 0 v (start .pre) ∙ dealt-taken a.head v e)
 
 returns-2 : tie.Need-returns-2
 unfolding dealtSays
 returns-2 c =
-    let a = c .before .before .before .before .before .args in
-    let e = ap dealtSays (sym (c .enum-told .given .1)) ∙ c .before .before .deal .ensures in
+    let at-deal = c .before .before in
+    let start = at-deal .before .before .before in
+    let a = start .args in
+    let e = ap dealtSays (sym (c .enum-told .given .1)) ∙ at-deal .deal .ensures in
     (omega arith, dealt-refused a.head (λ z. refusal-number (c .enum-told .given .0 .0) (ap (λ x. x .number) e ∙ z)))
 
 pub dealer-frame-spec : {M : Type 1} → statement M

@@ -15,28 +15,33 @@ returns c = (omega arith, λ x. clash (sym (c .before .member .ensures) ∙ c .i
 
 mul-a : tie.Need-mul-a
 mul-a c =
-    let start = c .before .before .before .before .before in
+    let at-member = c .before .before in
+    let start = at-member .before .before .before in
     let inside = part-inside (start .args .head) (start .args .cells .now) (start .pre .0) (start .args .q) (c .cell-count .result) (c .cell-count .ensures) (start .pre .1) in
     record { fits = omega (arith, inside) }
 
 add-e : tie.Need-add-e
 add-e c =
-    let start = c .before .before .before .before .before in
+    let at-member = c .before .before in
+    let start = at-member .before .before .before in
     let inside = part-inside (start .args .head) (start .args .cells .now) (start .pre .0) (start .args .q) (c .cell-count .result) (c .cell-count .ensures) (start .pre .1) in
     record { fits = omega (arith, inside) }
 
 part-frame-of-end : tie.Need-part-frame-of-end
 part-frame-of-end c =
     let counted = c .before in
-    let start = counted .before .before .before .before .before in
+    let at-member = counted .before .before in
+    let start = at-member .before .before .before in
     let size = counted .cell-count in
     omega (arith, part-inside (start .args .head) (start .args .cells .now) (start .pre .0) (start .args .q) (size .result) (size .ensures) (start .pre .1))
 
 returns-2 : tie.Need-returns-2
 returns-2 c =
     let framed = c .before .before in
-    let counted = framed .before .before .before .before in
-    let start = counted .before .before .before .before .before in
+    let at-r = framed .before .before .before in
+    let counted = at-r .before in
+    let at-member = counted .before .before in
+    let start = at-member .before .before .before in
     let a = start .args in
     let size = counted .cell-count in
     let is-size = count-is a.head (a.cells .now) (start .pre .0) a.q (size .result) (size .ensures) (start .pre .1) in

@@ -22,11 +22,17 @@ returns-4 c = simp (lt-leb _ _ (c .before .before .before .if1 .left), le-ltb _ 
 
 returns-5 : tie.Need-returns-5
 unfolding verdict refusal judgeSettings isDepth
-returns-5 c = simp (lt-leb _ _ (c .before .before .before .before .if1 .left), le-ltb _ _ (c .before .before .before .if2 .left), ne-eqb _ _ (c .before .before .if3 .left), le-leb _ _ (c .before .if4 .left), lt-leb _ _ (c .if5 .taken))
+returns-5 c =
+    let else2 = c .before .before .before in
+    let else1 = else2 .before in
+    simp (lt-leb _ _ (else1 .if1 .left), le-ltb _ _ (else2 .if2 .left), ne-eqb _ _ (c .before .before .if3 .left), le-leb _ _ (c .before .if4 .left), lt-leb _ _ (c .if5 .taken))
 
 returns-6 : tie.Need-returns-6
 unfolding verdict refusal judgeSettings isDepth
-returns-6 c = simp (lt-leb _ _ (c .before .before .before .before .if1 .left), le-ltb _ _ (c .before .before .before .if2 .left), ne-eqb _ _ (c .before .before .if3 .left), le-leb _ _ (c .before .if4 .left), le-leb _ _ (c .if5 .left))
+returns-6 c =
+    let else2 = c .before .before .before in
+    let else1 = else2 .before in
+    simp (lt-leb _ _ (else1 .if1 .left), le-ltb _ _ (else2 .if2 .left), ne-eqb _ _ (c .before .before .if3 .left), le-leb _ _ (c .before .if4 .left), le-leb _ _ (c .if5 .left))
 
 pub judge-settings-spec : {M : Type 1} → statement M
 judge-settings-spec =

@@ -44,46 +44,62 @@ mul-r c = record { fits = omega arith }
 print-board-requires : tie.Need-print-board-requires Inv-loop μ-loop
 print-board-requires c κs =
     let outside = c .before in
-    let turn = outside .before .before .before .before in
+    let in-loop = outside .before .before .before in
+    let turn = in-loop .before in
+    let else1 = turn .before .before in
+    let start = else1 .before .before in
     let l = turn .loop in
-    let a = turn .before .before .before .before .args in
+    let a = start .args in
     let text = printBoards a.head (boardsOf a.t2) 0 l.i in
     omega (arith, l .inv .1, print-short a.head (boardsOf a.t2) l.i, ap length (l .inv .2), length-sets (a.out .now) 0 text)
 
 add-used : tie.Need-add-used Inv-loop μ-loop
 add-used c =
-    let outside = c .before .before .before .before in
-    let turn = outside .before .before .before .before in
+    let at-print-board-arg = c .before .before .before in
+    let outside = at-print-board-arg .before in
+    let in-loop = outside .before .before .before in
+    let turn = in-loop .before in
+    let else1 = turn .before .before in
+    let start = else1 .before .before in
     let l = turn .loop in
-    let a = turn .before .before .before .before .args in
+    let a = start .args in
     record { fits = omega (arith, l .inv .1, print-short a.head (boardsOf a.t2) l.i) }
 
 loop-again : tie.Need-loop-again Inv-loop μ-loop
 loop-again c =
-    let turn = c .before .before .before .before in
-    let a = turn .before .before .before .before .args in
+    let at-member = c .before in
+    let turn = at-member .before .before .before in
+    let else1 = turn .before .before in
+    let start = else1 .before .before in
+    let a = start .args in
     let l = turn .loop in
     let b = boardsOf a.t2 in
     ⊎-elim
-    (λ w. let f : member l.i (a.head .faulty) ≡ false = sym (c .before .member .ensures) ∙ not-t (c .before .member .result) (w .0 .taken) in
+    (λ w. let f : member l.i (a.head .faulty) ≡ false = sym (at-member .member .ensures) ∙ not-t (at-member .member .result) (w .0 .taken) in
     let line = line-healthy a.head b l.i _ (decision-at a.t2 l.i _ refl) (detected-at a.t2 l.i _ refl) f in
     let (u, o) = one-more a.head b l.i l.used (a.out .now) l.out _ _ (l .inv .1) (l .inv .2) f line (w .2 .ensures) in
     (omega arith, w .6 ∙ u, w .5 ∙ o))
-    (λ w. let f : member l.i (a.head .faulty) ≡ true = sym (c .before .member .ensures) ∙ not-f (c .before .member .result) (w .0 .left) in
+    (λ w. let f : member l.i (a.head .faulty) ≡ true = sym (at-member .member .ensures) ∙ not-f (at-member .member .result) (w .0 .left) in
     let e = none-more a.head b l.i f in
     (omega arith, w .2 ∙ l .inv .1 ∙ ap length e, w .1 ∙ l .inv .2 ∙ ap (sets (a.out .now) 0) e))
     (c .if3 .came)
 
 same-length : tie.Need-same-length Inv-loop μ-loop
 same-length c =
-    let a = c .before .before .before .before .before .args in
-    let l = c .before .loop in
+    let at-loop = c .before in
+    let else1 = at-loop .before .before in
+    let start = else1 .before .before in
+    let a = start .args in
+    let l = at-loop .loop in
     ap length (l .inv .2) ∙ length-sets (a.out .now) 0 (printBoards a.head (boardsOf a.t2) 0 l.i)
 
 returns-3 : tie.Need-returns-3 Inv-loop μ-loop
 returns-3 c =
-    let a = c .before .before .before .before .before .args in
-    let l = c .before .loop in
+    let at-loop = c .before in
+    let else1 = at-loop .before .before in
+    let start = else1 .before .before in
+    let a = start .args in
+    let l = at-loop .loop in
     let text = printBoards a.head (boardsOf a.t2) 0 l.i in
     let e : text ≡ boardLines a.head a.t2 (a.out .now) =
     ap (printBoards a.head (boardsOf a.t2) 0) (let z : l.i ≡ a.head .plan .n = omega arith in z) ∙ sym (all-lines a.head a.t2 (a.out .now) (omega arith) (omega arith)) in (

@@ -14,17 +14,29 @@ use Rattle.printer.proofs.printing.print_line.Tie as tie
 
 same-length : tie.Need-same-length
 same-length c =
-    let third = c .before .before .print-byte2 in
-    let second = c .before .before .before .before .before .before .print-value in
-    let first = c .before .before .before .before .before .before .before .before .before .before .print-byte in
-    length-set (third .last .0) (c .before .before .before .before .before .before .before .before .before .before .before .before .before .args .at + 6) _ ∙ third .kept .0 ∙ second .kept .0 ∙ first .kept .0
+    let at-print-byte2 = c .before .before in
+    let at-out2 = at-print-byte2 .before .before .before in
+    let at-print-value = at-out2 .before in
+    let at-out = at-print-value .before .before .before in
+    let at-print-byte = at-out .before in
+    let start = at-print-byte .before .before .before in
+    let third = at-print-byte2 .print-byte2 in
+    let second = at-print-value .print-value in
+    let first = at-print-byte .print-byte in
+    length-set (third .last .0) (start .args .at + 6) _ ∙ third .kept .0 ∙ second .kept .0 ∙ first .kept .0
 
 returns : tie.Need-returns
 returns c =
-    let a = c .before .before .before .before .before .before .before .before .before .before .before .before .before .args in
-    let third = c .before .before .print-byte2 .ensures in
-    let second = c .before .before .before .before .before .before .print-value .ensures in
-    let first = c .before .before .before .before .before .before .before .before .before .before .print-byte .ensures in
+    let at-print-byte2 = c .before .before in
+    let at-out2 = at-print-byte2 .before .before .before in
+    let at-print-value = at-out2 .before in
+    let at-out = at-print-value .before .before .before in
+    let at-print-byte = at-out .before in
+    let start = at-print-byte .before .before .before in
+    let a = start .args in
+    let third = at-print-byte2 .print-byte2 .ensures in
+    let second = at-print-value .print-value .ensures in
+    let first = at-print-byte .print-byte .ensures in
     ap (λ o. set o (a.at + 6) 10) (third ∙ ap (λ o. sets o (a.at + 4) (hexByte a.detected [])) (second ∙ ap (λ o. sets o (a.at + 2) (hexValue a.decision [])) first))
     ∙ line-stores (a.out .now) a.at a.board a.decision a.detected
 

@@ -13,19 +13,34 @@ use Rattle.printer.proofs.printing.print_refusal.Tie as tie
 
 same-length : tie.Need-same-length
 same-length c =
-    let fourth = c .before .before .print-byte4 in
-    let third = c .before .before .before .before .before .before .print-byte3 in
-    let second = c .before .before .before .before .before .before .before .before .before .before .print-byte2 in
-    let first = c .before .before .before .before .before .before .before .before .before .before .before .before .before .before .print-byte in
+    let at-print-byte4 = c .before .before in
+    let at-out3 = at-print-byte4 .before .before .before in
+    let at-print-byte3 = at-out3 .before in
+    let at-out2 = at-print-byte3 .before .before .before in
+    let at-print-byte2 = at-out2 .before in
+    let at-out = at-print-byte2 .before .before .before in
+    let at-print-byte = at-out .before in
+    let fourth = at-print-byte4 .print-byte4 in
+    let third = at-print-byte3 .print-byte3 in
+    let second = at-print-byte2 .print-byte2 in
+    let first = at-print-byte .print-byte in
     length-set (fourth .last .0) 8 _ ∙ fourth .kept .0 ∙ third .kept .0 ∙ second .kept .0 ∙ first .kept .0
 
 returns : tie.Need-returns
 returns c =
-    let a = c .before .before .before .before .before .before .before .before .before .before .before .before .before .before .before .before .before .args in
-    let fourth = c .before .before .print-byte4 .ensures in
-    let third = c .before .before .before .before .before .before .print-byte3 .ensures in
-    let second = c .before .before .before .before .before .before .before .before .before .before .print-byte2 .ensures in
-    let first = c .before .before .before .before .before .before .before .before .before .before .before .before .before .before .print-byte .ensures in
+    let at-print-byte4 = c .before .before in
+    let at-out3 = at-print-byte4 .before .before .before in
+    let at-print-byte3 = at-out3 .before in
+    let at-out2 = at-print-byte3 .before .before .before in
+    let at-print-byte2 = at-out2 .before in
+    let at-out = at-print-byte2 .before .before .before in
+    let at-print-byte = at-out .before in
+    let start = at-print-byte .before .before .before in
+    let a = start .args in
+    let fourth = at-print-byte4 .print-byte4 .ensures in
+    let third = at-print-byte3 .print-byte3 .ensures in
+    let second = at-print-byte2 .print-byte2 .ensures in
+    let first = at-print-byte .print-byte .ensures in
     ap (λ o. set o 8 10)
     (fourth ∙ ap (λ o. sets o 6 (hexByte (a.line % 256) [])) (third ∙ ap (λ o. sets o 4 (hexByte (a.line / 256) [])) (second ∙ ap (λ o. sets o 2 (hexByte a.number [])) first)))
     ∙ refusal-stores (a.out .now) a.number a.line

@@ -54,14 +54,16 @@ returns c =
 
 sub-key-of : tie.Need-sub-key-of Inv-loop μ-loop
 sub-key-of c =
-    let ended = c .before .before .before .before in
+    let at-judge-line-arg = c .before .before .before in
+    let ended = at-judge-line-arg .before in
     let turn = ended .before .before in
     let start = turn .before .before in
     omega (arith, ended .line-end .ensures, stop-ge (start .args .text .now) (turn .loop .at))
 
 part-key-of-end : tie.Need-part-key-of-end Inv-loop μ-loop
 part-key-of-end c =
-    let ended = c .before .before .before .before in
+    let at-judge-line-arg = c .before .before .before in
+    let ended = at-judge-line-arg .before in
     let turn = ended .before .before in
     let start = turn .before .before in
     omega (arith, ended .line-end .ensures, stop-le (start .args .text .now) (turn .loop .at) (omega arith))
@@ -69,7 +71,8 @@ part-key-of-end c =
 add-least : tie.Need-add-least Inv-loop μ-loop
 unfolding lineKey
 add-least c =
-    let ended = c .before .before .before .before .before .before in
+    let at-match-keys2 = c .before .before .before in
+    let ended = at-match-keys2 .before .before .before in
     let turn = ended .before .before in
     let text = turn .before .before .args .text .now in
     let line = take (ended .line-end .result - turn .loop .at) (drop (turn .loop .at) text) in
@@ -90,7 +93,8 @@ add-at c =
 
 loop-less : tie.Need-loop-less Inv-loop μ-loop
 loop-less c =
-    let ended = c .before .before .before .before .before .before in
+    let at-match-keys2 = c .before .before .before in
+    let ended = at-match-keys2 .before .before .before in
     let turn = ended .before .before in
     omega (arith, ended .line-end .ensures, stop-ge (turn .before .before .args .text .now) (turn .loop .at))
 

@@ -12,8 +12,10 @@ returns c =
 
 returns-2 : tie.Need-returns-2
 returns-2 c =
-    let a = c .before .before .before .before .args in
-    sym (past-run a.plan a.run (c .before .before .before .runs .result) a.round (c .before .before .rounds .result) (c .before .before .before .runs .ensures) (c .before .before .rounds .ensures) (c .if2 .taken))
+    let at-runs = c .before .before .before in
+    let start = at-runs .before in
+    let a = start .args in
+    sym (past-run a.plan a.run (at-runs .runs .result) a.round (c .before .before .rounds .result) (at-runs .runs .ensures) (c .before .before .rounds .ensures) (c .if2 .taken))
 
 returns-3 : tie.Need-returns-3
 returns-3 c =
@@ -23,13 +25,15 @@ returns-3 c =
 
 returns-4 : tie.Need-returns-4
 returns-4 c =
-    let b = c .before .before .before .before in
+    let else1 = c .before .before .before in
+    let b = else1 .before in
     let a = b .before .before .args in
     sym (in-first a.plan a.run (b .before .runs .result) a.round (b .rounds .result) (b .before .runs .ensures) (b .rounds .ensures) (omega arith) (omega arith) (omega arith) (c .if4 .taken))
 
 returns-5 : tie.Need-returns-5
 returns-5 c =
-    let b = c .before .before .before .before in
+    let else1 = c .before .before .before in
+    let b = else1 .before in
     let a = b .before .before .args in
     sym (in-later a.plan a.run (b .before .runs .result) a.round (b .rounds .result) (b .before .runs .ensures) (b .rounds .ensures) (omega arith) (omega arith) (omega arith) (c .if4 .left))
 

@@ -16,9 +16,11 @@ part-largest-with-end c =
 returns : tie.Need-returns
 unfolding height
 returns c =
-    let p = c .before .before .before .before .before .args .plan in
+    let at-slots-used = c .before .before .before in
+    let start = at-slots-used .before .before in
+    let p = start .args .plan in
     let h : length (p .sets) ≡ 32 = search needs in
-    let k : c .before .before .before .slots-used .result - 0 ≡ min (p .count) 32 = omega arith in
+    let k : at-slots-used .slots-used .result - 0 ≡ min (p .count) 32 = omega arith in
     (ap (λ x. x + 1) (c .largest-with .ensures .0 ∙ ap (λ x. largest x (p .dealer)) (ap (λ m. take m (p .sets)) k ∙ slots-listed p h)), omega arith)
 
 pub height-spec : {M : Type 1} → statement M

@@ -20,10 +20,13 @@ loop-holds c = (omega arith, omega arith, omega arith)
 
 loop-again : tie.Need-loop-again Inv-loop μ-loop
 loop-again c =
-    let a = c .before .before .before .before .before .before .args in
-    let l = c .before .before .before .before .loop in
+    let at-size-with = c .before in
+    let at-loop = at-size-with .before .before .before in
+    let start = at-loop .before .before in
+    let a = start .args in
+    let l = at-loop .loop in
     let s = largest-step (a.sets .now) l.i a.d (omega arith) in
-    let k = c .before .size-with .ensures in
+    let k = at-size-with .size-with .ensures in
     ⊎-elim (λ w. (omega arith, omega (arith, w .0, w .1), omega (arith, w .1))) (λ w. (omega arith, omega (arith, w .0, w .1), omega (arith, w .1))) (c .if1 .came)
 
 returns : tie.Need-returns Inv-loop μ-loop

@@ -12,13 +12,17 @@ use Rattle.schedule.proofs.rounds.steps.Tie as tie
 
 sub-result : tie.Need-sub-result
 sub-result c =
-    let p = c .before .before .before .before .args .plan in
-    omega (arith, runs-pos p, ap (λ (x : Run). x .0) (c .before .before .before .runs .ensures))
+    let at-runs = c .before .before .before in
+    let start = at-runs .before in
+    let p = start .args .plan in
+    omega (arith, runs-pos p, ap (λ (x : Run). x .0) (at-runs .runs .ensures))
 
 sub-result-2 : tie.Need-sub-result-2
 sub-result-2 c =
-    let p = c .before .before .before .before .args .plan in
-    omega (arith, rounds-pos p, ap (λ (x : Round). x .0) (c .before .rounds .ensures))
+    let at-rounds = c .before in
+    let start = at-rounds .before .before .before in
+    let p = start .args .plan in
+    omega (arith, rounds-pos p, ap (λ (x : Round). x .0) (at-rounds .rounds .ensures))
 
 mul-result : tie.Need-mul-result
 mul-result c =

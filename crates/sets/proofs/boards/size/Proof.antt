@@ -22,8 +22,10 @@ loop-holds c = (omega arith, sym (count-zero (λ j. member j (c .args .s))), ome
 
 loop-again : tie.Need-loop-again Inv-loop μ-loop
 loop-again c =
-    let s = c .before .before .before .before .args .s in
-    let l = c .before .before .before .loop in
+    let at-loop = c .before .before .before in
+    let start = at-loop .before in
+    let s = start .args .s in
+    let l = at-loop .loop in
     let f : ℕ → Bool = λ j. member j s in
     ⊎-elim
     (λ w. (omega arith, rw add-one (omega (arith, w .1, l .inv .1, count-in f l.i (sym (c .before .member .ensures) ∙ w .0 .taken))), omega (arith, w .1)))

@@ -17,14 +17,18 @@ abbrev μ-loop : tie.MeasureT-loop
 
 loop-again : tie.Need-loop-again Inv-loop μ-loop
 loop-again c =
-    let a = c .before .before .before .before .before .args in
-    let l = c .before .before .loop in
+    let at-loop = c .before .before in
+    let start = at-loop .before .before .before in
+    let a = start .args in
+    let l = at-loop .loop in
     (omega arith, rw add-one (c .folded .ensures ∙ ap folding (l .inv .1) ∙ fold-stage (a.sets .now) (search needs) l.i))
 
 returns : tie.Need-returns Inv-loop μ-loop
 returns c =
-    let a = c .before .before .before .before .args in
-    let l = c .before .loop in
+    let at-loop = c .before in
+    let start = at-loop .before .before .before in
+    let a = start .args in
+    let l = at-loop .loop in
     let z : l.i ≡ 7 = omega arith in
     ap (λ x. set x 0 0) (l .inv .1 ∙ ap (stage (a.sets .now)) z) ∙ filled (a.sets .now)
 

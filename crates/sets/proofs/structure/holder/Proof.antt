@@ -26,24 +26,33 @@ loop-holds c = let a = c .before .before .args in (omega arith, seek-start (hold
 returns-2 : tie.Need-returns-2 Inv-loop μ-loop
 unfolding place
 returns-2 c =
-    let a = c .before .before .before .before .before .before .before .args in
-    let l = c .before .before .before .before .loop in
-    let hit = seek-hit (holds (a.sets .now) a.a) (length (a.sets .now)) l.i _ (l .inv .1) (omega arith) (sym (c .before .within .ensures) ∙ c .if2 .taken) in
-    sym (holder-at (a.sets .now) a.a l.i (c .before .before .before .before .before .if1 .left) hit (omega arith))
+    let at-within = c .before in
+    let at-loop = at-within .before .before .before in
+    let else1 = at-loop .before in
+    let start = else1 .before .before in
+    let a = start .args in
+    let l = at-loop .loop in
+    let hit = seek-hit (holds (a.sets .now) a.a) (length (a.sets .now)) l.i _ (l .inv .1) (omega arith) (sym (at-within .within .ensures) ∙ c .if2 .taken) in
+    sym (holder-at (a.sets .now) a.a l.i (else1 .if1 .left) hit (omega arith))
 
 loop-again : tie.Need-loop-again Inv-loop μ-loop
 loop-again c =
-    let a = c .before .before .before .before .before .before .before .args in
-    let l = c .before .before .before .before .loop in
-    (omega arith, seek-miss (holds (a.sets .now) a.a) (length (a.sets .now)) l.i _ (l .inv .1) (omega arith) (sym (c .before .within .ensures) ∙ c .if2 .left))
+    let at-within = c .before in
+    let at-loop = at-within .before .before .before in
+    let start = at-loop .before .before .before in
+    let a = start .args in
+    let l = at-loop .loop in
+    (omega arith, seek-miss (holds (a.sets .now) a.a) (length (a.sets .now)) l.i _ (l .inv .1) (omega arith) (sym (at-within .within .ensures) ∙ c .if2 .left))
 
 returns-3 : tie.Need-returns-3 Inv-loop μ-loop
 unfolding place
 returns-3 c =
-    let a = c .before .before .before .before .args in
+    let else1 = c .before .before in
+    let start = else1 .before .before in
+    let a = start .args in
     let l = c .before .loop in
     let end = seek-none (holds (a.sets .now) a.a) (length (a.sets .now)) l.i _ (l .inv .1) (omega arith) in
-    sym (holder-none (a.sets .now) a.a l.i (c .before .before .if1 .left) end (omega arith))
+    sym (holder-none (a.sets .now) a.a l.i (else1 .if1 .left) end (omega arith))
 
 pub holder-spec : {M : Type 1} → statement M
 holder-spec =

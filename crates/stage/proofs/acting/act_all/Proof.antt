@@ -41,7 +41,8 @@ add-e c =
 
 part-act-one-end : tie.Need-part-act-one-end Inv-loop μ-loop
 part-act-one-end c =
-    let turned = c .before .before .before .before in
+    let in-loop = c .before .before .before in
+    let turned = in-loop .before in
     let counted = turned .before in
     let start = counted .before .before .before in
     let head = start .args .head in
@@ -80,7 +81,8 @@ same-length c = c .before .loop .inv .2
 returns : tie.Need-returns Inv-loop μ-loop
 returns c =
     let turned = c .before in
-    let start = turned .before .before .before .before in
+    let at-plan = turned .before .before in
+    let start = at-plan .before .before in
     let a = start .args in
     let l = turned .loop in
     let all : l.i ≡ a.head .plan .n = omega arith in

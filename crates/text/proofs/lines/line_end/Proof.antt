@@ -22,13 +22,17 @@ loop-holds c = refl
 
 returns : tie.Need-returns Inv-loop μ-loop
 returns c =
-    let text = c .before .before .before .before .args .text .now in
-    seek-hit (λ k. eqb (getD text k 0) 10) (length text) (c .before .before .before .loop .i) _ (c .before .before .before .loop .inv) (omega arith) (eq-eqb _ _ (c .if1 .taken))
+    let at-loop = c .before .before .before in
+    let start = at-loop .before in
+    let text = start .args .text .now in
+    seek-hit (λ k. eqb (getD text k 0) 10) (length text) (at-loop .loop .i) _ (at-loop .loop .inv) (omega arith) (eq-eqb _ _ (c .if1 .taken))
 
 loop-again : tie.Need-loop-again Inv-loop μ-loop
 loop-again c =
-    let text = c .before .before .before .before .args .text .now in
-    seek-miss (λ k. eqb (getD text k 0) 10) (length text) (c .before .before .before .loop .i) _ (c .before .before .before .loop .inv) (omega arith) (ne-eqb _ _ (c .if1 .left))
+    let at-loop = c .before .before .before in
+    let start = at-loop .before in
+    let text = start .args .text .now in
+    seek-miss (λ k. eqb (getD text k 0) 10) (length text) (at-loop .loop .i) _ (at-loop .loop .inv) (omega arith) (ne-eqb _ _ (c .if1 .left))
 
 returns-2 : tie.Need-returns-2 Inv-loop μ-loop
 returns-2 c =

@@ -35,7 +35,9 @@ returns-3 c = let a = c .before .before .before .args in sym (size-deep a.n a.k 
 returns-4 : tie.Need-returns-4
 unfolding sizes levelSize
 returns-4 c =
-    let a = c .before .before .before .before .args in
+    let else1 = c .before .before .before in
+    let start = else1 .before in
+    let a = start .args in
     let z : suc (a.n - 1) ≡ a.n = omega arith in
     table sizes (λ i k. levelSize (suc i) k) 7 8 refl (a.n - 1) a.k (omega arith) (omega arith)
     ∙ ap (λ m. levelSize m a.k) z

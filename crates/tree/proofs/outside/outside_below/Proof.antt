@@ -22,13 +22,17 @@ loop-holds c = (omega arith, sym (outside-zero (c .args .s)))
 
 add-seen : tie.Need-add-seen Inv-loop μ-loop
 add-seen c =
-    let l = c .before .before .before .loop in
-    record { fits = omega (arith, outside-le (c .before .before .before .before .args .s) l.i) }
+    let at-loop = c .before .before .before in
+    let start = at-loop .before in
+    let l = at-loop .loop in
+    record { fits = omega (arith, outside-le (start .args .s) l.i) }
 
 loop-again : tie.Need-loop-again Inv-loop μ-loop
 loop-again c =
-    let a = c .before .before .before .before .args in
-    let l = c .before .before .before .loop in
+    let at-loop = c .before .before .before in
+    let start = at-loop .before in
+    let a = start .args in
+    let l = at-loop .loop in
     ⊎-elim
     (λ w. (omega arith, omega (arith, w .1, outside-more a.s l.i (sym (c .before .member .ensures) ∙ not-t _ (w .0 .taken)))))
     (λ w. (omega arith, omega (arith, w .1, outside-skip a.s l.i (sym (c .before .member .ensures) ∙ not-f _ (w .0 .left)))))

@@ -29,8 +29,10 @@ loop-holds c = let a = c .args in (omega arith, sym (setOf-zero (other a.boards 
 
 loop-again : tie.Need-loop-again Inv-loop μ-loop
 loop-again c =
-    let a = c .before .before .before .before .args in
-    let l = c .before .before .before .loop in
+    let at-loop = c .before .before .before in
+    let start = at-loop .before in
+    let a = start .args in
+    let l = at-loop .loop in
     let f = other a.boards a.values a.v a.detected in
     let off : Bool = not (member l.c a.boards) && not (eqb (at a.values l.c) a.v) in
     let on : Bool = member l.c a.detected in

@@ -26,16 +26,20 @@ explains-all-requires c κs = (c .before .before .before .pre, omega arith)
 returns : tie.Need-returns Inv-loop μ-loop
 unfolding explainedBy
 returns c =
-    let l = c .before .before .before .loop in
-    let a = c .before .before .before .before .before .args in
+    let at-loop = c .before .before .before in
+    let start = at-loop .before .before in
+    let l = at-loop .loop in
+    let a = start .args in
     let f = explains a.plan a.boards a.values a.detected in
     let hit = seek-hit f (a.plan .n) l.c _ (l .inv .1) (omega arith) (sym (c .before .explains-all .ensures) ∙ c .if1 .taken) in
     sym (any-at f (a.plan .n) l.c hit ∙ lt-ltb l.c (a.plan .n) (omega arith))
 
 loop-again : tie.Need-loop-again Inv-loop μ-loop
 loop-again c =
-    let l = c .before .before .before .loop in
-    let a = c .before .before .before .before .before .args in
+    let at-loop = c .before .before .before in
+    let start = at-loop .before .before in
+    let l = at-loop .loop in
+    let a = start .args in
     (omega arith, seek-miss (explains a.plan a.boards a.values a.detected) (a.plan .n) l.c _ (l .inv .1) (omega arith) (sym (c .before .explains-all .ensures) ∙ c .if1 .left))
 
 returns-2 : tie.Need-returns-2 Inv-loop μ-loop

@@ -29,8 +29,10 @@ loop-holds c = let a = c .args in (omega arith, sym (setOf-zero (agrees a.boards
 
 loop-again : tie.Need-loop-again Inv-loop μ-loop
 loop-again c =
-    let a = c .before .before .before .before .args in
-    let l = c .before .before .before .loop in
+    let at-loop = c .before .before .before in
+    let start = at-loop .before in
+    let a = start .args in
+    let l = at-loop .loop in
     let f = agrees a.boards a.t3 a.v in
     let m = sym (c .before .member .ensures) in
     ⊎-elim

@@ -22,19 +22,26 @@ array-read-v : tie.Need-array-read-v Inv-loop μ-loop
 array-read-v c = let e = c .before .before .before in omega (arith, e .pre .most-boards)
 
 elects-requires : tie.Need-elects-requires Inv-loop μ-loop
-elects-requires c κs = (c .before .before .before .before .pre, omega arith)
+elects-requires c κs =
+    let at-loop = c .before .before in
+    let start = at-loop .before .before in
+    (start .pre, omega arith)
 
 returns : tie.Need-returns Inv-loop μ-loop
 returns c =
     let asks = c .before .before in
-    let l = asks .before .before .before .loop in
-    let a = asks .before .before .before .before .before .args in
+    let at-loop = asks .before .before .before in
+    let start = at-loop .before .before in
+    let l = at-loop .loop in
+    let a = start .args in
     leading-two a.plan a.boards a.t4 l.c l.found (l .inv .1) (sym (asks .elects .ensures) ∙ c .before .if2 .taken) (c .if3 .taken) (λ e. asks .before .if1 .taken (sym e))
 
 loop-again : tie.Need-loop-again Inv-loop μ-loop
 loop-again c =
-    let l = c .before .before .loop in
-    let a = c .before .before .before .before .args in
+    let at-loop = c .before .before in
+    let start = at-loop .before .before in
+    let l = at-loop .loop in
+    let a = start .args in
     ⊎-elim
     (λ w. (
       omega arith,

@@ -60,10 +60,16 @@ abbrev μ-loop : walk-lts.MeasureT-loop
 
 -- The function's start, from where a node is written, from where its children are walked, and from inside the loop.
 abbrev from-write : {t : ℕ} → walk-lts.After-node-of (callees t) (walk-at t) walk.Post Inv-loop μ-loop → walk-lts.Start (callees t) (walk-at t) walk.Post Inv-loop μ-loop
-from-write c = c .before .before .before .before .before .before
+from-write c =
+    let at-is-open = c .before .before .before in
+    let start = at-is-open .before .before .before in
+    start
 
 abbrev from-else : {t : ℕ} → walk-lts.Else2 (callees t) (walk-at t) walk.Post Inv-loop μ-loop → walk-lts.Start (callees t) (walk-at t) walk.Post Inv-loop μ-loop
-from-else c = c .before .before .before .before .before
+from-else c =
+    let at-is-open = c .before .before in
+    let start = at-is-open .before .before .before in
+    start
 
 abbrev from-loop : {t : ℕ} → walk-lts.In-loop (callees t) (walk-at t) walk.Post Inv-loop μ-loop → walk-lts.Start (callees t) (walk-at t) walk.Post Inv-loop μ-loop
 from-loop c = from-else (c .before .before)
@@ -75,13 +81,16 @@ is-open-requires t c κs =
 
 returns : (t : ℕ) → walk-lts.Need-returns (callees t) (walk-at t) walk.Post Inv-loop μ-loop
 returns t c =
-    let a = c .before .before .before .before .args in
-    let e = walked-shut (isOpen (a.holders .now) a.without) a.n a.spare a.left a.index a.last a.boards (sym (c .before .is-open .ensures) ∙ not-t _ (c .if1 .taken)) in
+    let at-is-open = c .before in
+    let start = at-is-open .before .before .before in
+    let a = start .args in
+    let e = walked-shut (isOpen (a.holders .now) a.without) a.n a.spare a.left a.index a.last a.boards (sym (at-is-open .is-open .ensures) ∙ not-t _ (c .if1 .taken)) in
     record { counted = omega (arith, ap length e); content = ap (sets (a.nodes .now) a.used) (sym e) }
 
 node-of-requires : (t : ℕ) → walk-lts.Need-node-of-requires (callees t) (walk-at t) walk.Post Inv-loop μ-loop
 node-of-requires t c κs =
-    let s = c .before .before .before .before .before in
+    let at-is-open = c .before .before in
+    let s = at-is-open .before .before .before in
     omega (arith, s .pre .1 .number, ap (λ k. 8 ^ (7 - k)) (c .if2 .taken))
 
 -- A node of the level is written.
@@ -190,7 +199,8 @@ is-open-requires-2 t c κs =
 
 node-of-requires-2 : (t : ℕ) → walk-lts.Need-node-of-requires-2 (callees t) (walk-at t) walk.Post Inv-loop μ-loop
 node-of-requires-2 t c κs =
-    let x = c .before .before .before .before .before in
+    let then3 = c .before .before .before in
+    let x = then3 .before .before in
     omega (arith, number x, ap (λ k. 8 ^ (7 - (k - 1))) (c .if5 .taken))
 
 slice-write-nodes-2 : (t : ℕ) → walk-lts.Need-slice-write-nodes-2 (callees t) (walk-at t) walk.Post Inv-loop μ-loop
@@ -226,7 +236,8 @@ walk-requires t c κs =
 
 add-next-2 : (t : ℕ) → walk-lts.Need-add-next-2 (callees t) (walk-at t) walk.Post Inv-loop μ-loop
 add-next-2 t c =
-    let x = c .before .before .before .before in
+    let at-member = c .before .before .before in
+    let x = at-member .before in
     let s = from-loop x in
     let p = s .pre .1 in
     let l = x .before .loop in

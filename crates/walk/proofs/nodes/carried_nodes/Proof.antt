@@ -22,10 +22,11 @@ walk-requires c κs =
 
 returns : tie.Need-returns
 returns c =
-    let x = c .before .before .walk in
-    let bar = c .before .before .before .before in
+    let at-walk = c .before .before in
+    let bar = at-walk .before .before in
     let own = bar .before in
     let s = own .before .before .before in
+    let x = at-walk .walk in
     let a = s .args in
     whole-lists a.plan a.q a.board a.level _ (a.holders .now) (a.nodes .now) (s .pre) (few s) (ap₂ bitOr (own .set-of .ensures) (bar .barred-to .ensures)) (x .result) _ (x .ensures)
 

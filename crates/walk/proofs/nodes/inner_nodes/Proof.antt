@@ -13,9 +13,11 @@ carried-nodes-requires c κs =
 
 returns : tie.Need-returns
 returns c =
-    let s = c .before .before .before .before .before .before in
+    let at-carried-nodes = c .before .before in
+    let at-carried-nodes-arg = at-carried-nodes .before in
+    let s = at-carried-nodes-arg .before .before .before in
     let a = s .args in
-    all-lists a.plan a.board a.level (s .pre) (c .before .before .carried-nodes .ensures)
+    all-lists a.plan a.board a.level (s .pre) (at-carried-nodes .carried-nodes .ensures)
 
 pub inner-nodes-spec : {M : Type 1} → statement M
 inner-nodes-spec = tie.close (tie.spec carried-nodes-requires (λ c. search needs) returns)

@@ -15,9 +15,11 @@ part-holders-of-end c =
 
 returns : tie.Need-returns
 returns c =
-    let p = c .before .before .before .before .before .args .self in
+    let at-slots-used = c .before .before .before in
+    let start = at-slots-used .before .before in
+    let p = start .args .self in
     let h : length (p .sets) ≡ 32 = search needs in
-    let k : c .before .before .before .slots-used .result - 0 ≡ min (p .count) 32 = omega arith in
+    let k : at-slots-used .slots-used .result - 0 ≡ min (p .count) 32 = omega arith in
     c .holders-of .ensures ∙ ap holderTable (ap (λ m. take m (p .sets)) k ∙ slots-listed p h)
 
 pub holders-spec : {M : Type 1} → statement M

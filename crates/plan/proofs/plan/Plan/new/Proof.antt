@@ -10,22 +10,29 @@ use Rattle.plan.proofs.plan.Plan.new.Tie as tie
 on-requires : tie.Need-on-requires
 unfolding verdict
 on-requires c κs =
-    let a = c .before .before .before .before .args in
-    let ok = ap verdict (sym (c .enum-told .given .1)) ∙ c .before .before .judge .ensures in
+    let at-judge = c .before .before in
+    let start = at-judge .before .before in
+    let a = start .args in
+    let ok = ap verdict (sym (c .enum-told .given .1)) ∙ at-judge .judge .ensures in
     accepted a.n (length (a.sets .now)) (a.sets .now) a.settings (ap (λ o. o .number) (sym ok)) .admission .most-sets
 
 returns : tie.Need-returns
 unfolding verdict
 returns c =
-    let a = c .before .before .before .before .before .args in
-    let ok = ap verdict (sym (c .before .enum-told .given .1)) ∙ c .before .before .before .judge .ensures in
+    let at-judge = c .before .before .before in
+    let start = at-judge .before .before in
+    let a = start .args in
+    let ok = ap verdict (sym (c .before .enum-told .given .1)) ∙ at-judge .judge .ensures in
     (ok, c .on .ensures ∙ sym (planned-taken a.n (a.sets .now) a.settings (ap (λ o. o .number) (sym ok))))
 
 returns-2 : tie.Need-returns-2
 unfolding verdict
 returns-2 c =
-    let a = c .before .before .before .before .before .before .args in
-    let no = ap verdict (sym (c .before .before .answer .given .1)) ∙ c .before .before .before .before .judge .ensures in
+    let at-answer = c .before .before in
+    let at-judge = at-answer .before .before in
+    let start = at-judge .before .before in
+    let a = start .args in
+    let no = ap verdict (sym (at-answer .answer .given .1)) ∙ at-judge .judge .ensures in
     (no, c .void .ensures ∙ sym (planned-refused a.n (a.sets .now) a.settings (λ z. refusal-number _ (ap (λ o. o .number) no ∙ z))))
 
 pub new-spec : {M : Type 1} → statement M
