@@ -27,8 +27,9 @@ loop-holds c =
 
 loop-again : tie.Need-loop-again Inv-loop μ-loop
 loop-again c =
-    let a = c .before .before .before .before .args in
-    let l = c .before .before .before .loop in
+    let turned = c .before .before .before in
+    let a = turned .before .args in
+    let l = turned .loop in
     let f : ℕ → Bool = λ k. not (eqb (getD (a .bytes .now) k 0) (a .x)) in
     ⊎-elim
     (λ w. (rw add-one (omega (arith, w .1, l .inv .0, count-in f l.i (true-not _ (ne-eqb _ _ (w .0 .taken))))), omega (arith, w .1), omega arith))

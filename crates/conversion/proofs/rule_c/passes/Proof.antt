@@ -22,7 +22,8 @@ returns c =
 
 child-cells-requires : tie.Need-child-cells-requires
 child-cells-requires c κs =
-    let set = c .before .before .before .before in
+    let asked = c .before .before in
+    let set = asked .before .before in
     let s = set .before .before .before in
     let a = s .args in
     subst (λ b. Beside (a.plan .n) b a.from (a.cells .now)) (sym (c .boards-of .ensures)) (s .pre .1)

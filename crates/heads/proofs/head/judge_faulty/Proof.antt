@@ -17,7 +17,7 @@ use Rattle.heads.proofs.head.judge_faulty.Statement.{statement}
 use Rattle.heads.proofs.head.judge_faulty.Tie as tie
 
 -- The set names boards of the plan, or not.
-named : (c : tie.After-within) → let a = c .before .before .before .before .args in c .within .result ≡ within a.faulty (boards (min a.n 7))
+named : (c : tie.After-within) → let few = c .before .before in let a = few .before .before .args in c .within .result ≡ within a.faulty (boards (min a.n 7))
 named c =
     let few = c .before .before in
     let a = few .before .before .args in
@@ -29,10 +29,10 @@ unfolding verdict refusal
 returns c = rw (sym (named (c .before)) ∙ not-t _ (c .if1 .taken)) refl
 
 -- A set of the plan's boards.
-inside : (c : tie.Else1) → let a = c .before .before .before .before .before .args in within a.faulty (boards (min a.n 7)) ≡ true
+inside : (c : tie.Else1) → let few = c .before .before .before in let a = few .before .before .args in within a.faulty (boards (min a.n 7)) ≡ true
 inside c = sym (named (c .before)) ∙ not-f _ (c .if1 .left)
 
-small : (c : tie.Else1) → c .before .before .before .before .before .args .faulty < 128
+small : (c : tie.Else1) → let few = c .before .before .before in few .before .before .args .faulty < 128
 small c =
     let at-at-most-seven = c .before .before .before in
     let known = at-at-most-seven .before in
@@ -47,7 +47,7 @@ holds-requires c κs =
 
 -- The table holds the set, or not.
 held : (c : tie.After-holds)
-    → let e = c .before .before .before .before .before .before .before .before in c .holds .result ≡ tolerated (e .args .sets .now) (e .args .faulty)
+    → let left = c .before .before .before in let few = left .before .before .before in let e = few .before .before in c .holds .result ≡ tolerated (e .args .sets .now) (e .args .faulty)
 held c =
     let made = c .before .before in
     let left = made .before in

@@ -25,15 +25,19 @@ loop-holds c = (search needs, refl, refl)
 
 hear-sender-requires : tie.Need-hear-sender-requires Inv-loop μ-loop
 hear-sender-requires c κs =
-    let s = c .before .before .before .before .before in
-    let l = c .before .before .loop in
+    let at-loop = c .before .before in
+    let s = at-loop .before .before .before in
+    let l = at-loop .loop in
     (record { roomy = record { few = s .pre .roomy .few; room = omega (arith, s .pre .roomy .room, l .inv .2) }; rising = s .pre .rising }, omega arith)
 
 loop-again : tie.Need-loop-again Inv-loop μ-loop
 loop-again c =
-    let a = c .before .before .before .before .before .before .before .before .args in
-    let l = c .before .before .before .before .before .loop in
-    let d = c .before .before .hear-sender in
+    let at-hear-sender = c .before .before in
+    let at-loop = at-hear-sender .before .before .before in
+    let start = at-loop .before .before .before in
+    let a = start .args in
+    let l = at-loop .loop in
+    let d = at-hear-sender .hear-sender in
     let fs = framesFrom (a.text .now) a.from in (
       omega arith,
       ap₂ (λ u v. record { recs = u; cells = v }) (d .ensures .0) (d .ensures .1)
@@ -46,8 +50,10 @@ same-length c = c .before .loop .inv .2
 
 returns : tie.Need-returns Inv-loop μ-loop
 returns c =
-    let a = c .before .before .before .before .args in
-    let l = c .before .loop in
+    let at-loop = c .before in
+    let start = at-loop .before .before .before in
+    let a = start .args in
+    let l = at-loop .loop in
     let e = l .inv .1 ∙ ap (λ m. hearSenders a.head (framesFrom (a.text .now) a.from) m (record { recs = a.records; cells = a.cells .now })) (let h : l.q ≡ a.head .plan .n = omega arith in h) in
     (ap (λ x. x .recs) e, ap (λ x. x .cells) e)
 

@@ -18,9 +18,11 @@ part-receive-end : tie.Need-part-receive-end
 unfolding foundSays
 part-receive-end c =
     let found = c .before .before .before in
-    let read = found .before .before .before .before in
+    let at-frame = found .before .before .before in
+    let read = at-frame .before in
     let lent = read .before .before .before in
-    let start = lent .before .before .before .before in
+    let at-shared-slice-known = lent .before .before .before in
+    let start = at-shared-slice-known .before in
     let a = start .args in
     let v = findFrame (a.r .run) (a.r .round) a.q (a.r .board) (framesFrom (a.text .now) a.from) in
     let said = ap foundSays (sym (found .k .given .1)) ∙ read .read-frame .ensures .0 ∙ ap (readLength v) (start .pre .1) in
@@ -29,9 +31,11 @@ part-receive-end c =
 returns : tie.Need-returns
 unfolding foundSays
 returns c =
-    let read = c .before .before .before .before in
+    let at-frame = c .before .before .before in
+    let read = at-frame .before in
     let lent = read .before .before .before in
-    let start = lent .before .before .before .before in
+    let at-shared-slice-known = lent .before .before .before in
+    let start = at-shared-slice-known .before in
     let a = start .args in
     let v = findFrame (a.r .run) (a.r .round) a.q (a.r .board) (framesFrom (a.text .now) a.from) in
     let said = ap foundSays (sym (c .enum-told .given .1)) ∙ read .read-frame .ensures .0 ∙ ap (readLength v) (start .pre .1) in
@@ -42,10 +46,13 @@ returns-2 : tie.Need-returns-2
 unfolding foundSays
 returns-2 c =
     let heard = c .before .before .before in
-    let found = heard .before .before .before .before .before in
-    let read = found .before .before .before .before in
+    let at-receive-arg = heard .before .before .before in
+    let found = at-receive-arg .before .before in
+    let at-frame = found .before .before .before in
+    let read = at-frame .before in
     let lent = read .before .before .before in
-    let start = lent .before .before .before .before in
+    let at-shared-slice-known = lent .before .before .before in
+    let start = at-shared-slice-known .before in
     let a = start .args in
     let v = findFrame (a.r .run) (a.r .round) a.q (a.r .board) (framesFrom (a.text .now) a.from) in
     let k = found .k .given .0 .0 in

@@ -33,7 +33,8 @@ mul-a : tie.Need-mul-a Inv-loop μ-loop
 mul-a c =
     let turned = c .before .before .before in
     let counted = turned .before in
-    let start = counted .before .before .before .before in
+    let lent = counted .before .before in
+    let start = lent .before .before in
     let size = counted .cell-count in
     record { fits = omega (arith, part-small (start .args .head) (start .args .cells .now) (start .pre .0 .roomy) (turned .loop .i) (size .result) (size .ensures) (omega arith)) }
 
@@ -41,49 +42,67 @@ add-e : tie.Need-add-e Inv-loop μ-loop
 add-e c =
     let turned = c .before .before .before in
     let counted = turned .before in
-    let start = counted .before .before .before .before in
+    let lent = counted .before .before in
+    let start = lent .before .before in
     let size = counted .cell-count in
     record { fits = omega (arith, part-small (start .args .head) (start .args .cells .now) (start .pre .0 .roomy) (turned .loop .i) (size .result) (size .ensures) (omega arith)) }
 
 part-hear-from-end : tie.Need-part-hear-from-end Inv-loop μ-loop
 part-hear-from-end c =
-    let turned = c .before .before .before .before .before in
+    let keeps = c .before .before in
+    let turned = keeps .before .before .before in
     let counted = turned .before in
-    let start = counted .before .before .before .before in
+    let lent = counted .before .before in
+    let start = lent .before .before in
     let size = counted .cell-count in
     omega (arith, part-inside (start .args .head) (start .args .cells .now) (start .pre .0 .roomy) (turned .loop .i) (size .result) (size .ensures) (omega arith), turned .loop .inv .2)
 
 hear-from-requires : tie.Need-hear-from-requires Inv-loop μ-loop
 hear-from-requires c κs =
-    let turned = c .before .before .before .before .before .before in
-    let start = turned .before .before .before .before .before in
+    let keeps = c .before .before .before in
+    let turned = keeps .before .before .before in
+    let counted = turned .before in
+    let lent = counted .before .before in
+    let start = lent .before .before in
     (start .pre .0 .rising, record { fits = start .pre .1 .fits; whole = turned .loop .inv .3 ∙ start .pre .1 .whole })
 
 cast-all : tie.Need-cast-all Inv-loop μ-loop
 cast-all c =
-    let did = c .before .before .before .before in
-    let keeps = did .before .before .before .before in
+    let framed = c .before .before .before in
+    let did = framed .before in
+    let read = did .before .before .before in
+    let keeps = read .before in
     let inside = keeps .before .before in
     let turned = inside .before in
-    let start = turned .before .before .before .before .before in
+    let counted = turned .before in
+    let lent = counted .before .before in
+    let start = lent .before .before in
     record { fits = omega (arith, start .pre .0 .roomy .few) }
 
 mul-all : tie.Need-mul-all Inv-loop μ-loop
 mul-all c =
-    let did = c .before .before .before .before in
-    let keeps = did .before .before .before .before in
+    let framed = c .before .before .before in
+    let did = framed .before in
+    let read = did .before .before .before in
+    let keeps = read .before in
     let inside = keeps .before .before in
     let turned = inside .before in
-    let start = turned .before .before .before .before .before in
+    let counted = turned .before in
+    let lent = counted .before .before in
+    let start = lent .before .before in
     record { fits = omega (arith, start .pre .0 .roomy .few) }
 
 array-set-from-all : tie.Need-array-set-from-all Inv-loop μ-loop
 array-set-from-all c =
-    let did = c .before .before .before .before in
-    let keeps = did .before .before .before .before in
+    let framed = c .before .before .before in
+    let did = framed .before in
+    let read = did .before .before .before in
+    let keeps = read .before in
     let inside = keeps .before .before in
     let turned = inside .before in
-    let start = turned .before .before .before .before .before in
+    let counted = turned .before in
+    let lent = counted .before .before in
+    let start = lent .before .before in
     omega (arith, start .pre .0 .roomy .few)
 
 loop-again : tie.Need-loop-again Inv-loop μ-loop
@@ -91,7 +110,8 @@ unfolding framesFrom hearFrom
 loop-again c =
     let turned = c .before .before .before in
     let counted = turned .before in
-    let start = counted .before .before .before .before in
+    let lent = counted .before .before in
+    let start = lent .before .before in
     let a = start .args in
     let l = turned .loop in
     let size = counted .cell-count .result in
@@ -125,7 +145,9 @@ loop-again c =
 returns : tie.Need-returns Inv-loop μ-loop
 returns c =
     let turned = c .before in
-    let start = turned .before .before .before .before .before in
+    let counted = turned .before in
+    let lent = counted .before .before in
+    let start = lent .before .before in
     let a = start .args in
     let l = turned .loop in
     let all : l.i ≡ a.head .plan .n = omega arith in

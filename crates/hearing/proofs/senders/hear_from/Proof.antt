@@ -20,10 +20,13 @@ use Rattle.hearing.proofs.senders.hear_from.Tie as tie
 returns : tie.Need-returns
 unfolding hearFrom
 returns c =
-    let heard = c .before .before .before .before in
+    let at-frame = c .before .before .before in
+    let heard = at-frame .before in
     let faulty = heard .before .before .before in
     let asked = faulty .before in
-    let a = asked .before .before .before .before .args in
+    let at-shared-slice-known = asked .before .before .before in
+    let start = at-shared-slice-known .before in
+    let a = start .args in
     let b : Board = boardWith a.r (a.cells .now) in
     let f : member a.q (a.head .faulty) ≡ true = sym (asked .member .ensures) ∙ faulty .if1 .taken in
     let e = sym (ap (λ x. handIn a.q x b) (told-faulty a.head (framesFrom (a.text .now) a.from) a.q (take a.own (a.frame .now)) b f)) in
@@ -33,9 +36,12 @@ returns-2 : tie.Need-returns-2
 unfolding hearFrom handIn receiving
 returns-2 c =
     let heard = c .before .before .before in
-    let healthy = heard .before .before .before .before in
+    let at-receive-arg = heard .before .before .before in
+    let healthy = at-receive-arg .before in
     let asked = healthy .before in
-    let a = asked .before .before .before .before .args in
+    let at-shared-slice-known = asked .before .before .before in
+    let start = at-shared-slice-known .before in
+    let a = start .args in
     let b : Board = boardWith a.r (a.cells .now) in
     let f : member a.q (a.head .faulty) ≡ false = sym (asked .member .ensures) ∙ healthy .if1 .left in
     let own : a.own - 0 ≡ a.own = omega arith in

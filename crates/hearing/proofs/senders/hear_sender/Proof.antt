@@ -11,8 +11,10 @@ use Rattle.hearing.proofs.senders.hear_sender.Tie as tie
 returns : tie.Need-returns
 returns c =
     let heard = c .before .before .before in
-    let framed = heard .before .before .before .before in
-    let start = framed .before .before .before .before .before in
+    let at-frame2 = heard .before .before .before in
+    let framed = at-frame2 .before in
+    let at-sender-frame-arg = framed .before .before in
+    let start = at-sender-frame-arg .before .before .before in
     let a = start .args in
     let own = framed .sender-frame in
     let frame = take (own .result) (own .last .1 .1 .1 .1 .0) in

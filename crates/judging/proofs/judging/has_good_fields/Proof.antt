@@ -18,7 +18,9 @@ listing c =
     c .within .ensures ∙ ap₂ within (set .as-set .ensures) (all-below (e .args .r .plan .n) _ (e .pre) (set .before .all-boards .ensures))
 
 marking : (c : tie.After-within2)
-    → let r = c .before .before .before .before .before .args .r in c .within2 .result ≡ within (r .taken) (boards (r .plan .n))
+    → let first = c .before in
+    let held = first .before .before .before in
+    let r = held .before .args .r in c .within2 .result ≡ within (r .taken) (boards (r .plan .n))
 marking c =
     let first = c .before in
     let held = first .before .before .before in

@@ -71,7 +71,7 @@ from-loop c = from-inner (c .before .before)
 
 -- The loop's turn, from after a child's call; and the branch of an internal node, from a turn.
 abbrev turn-of : {t : ℕ} → lts.After-slice-known3 (callees t) (at-t t) self.Post Inv-loop μ-loop → lts.In-loop (callees t) (at-t t) self.Post Inv-loop μ-loop
-turn-of c = c .before .before .before .before .before .before
+turn-of c = let called = c .before .before .before in called .before .before .before
 
 abbrev inner-of : {t : ℕ} → lts.In-loop (callees t) (at-t t) self.Post Inv-loop μ-loop → lts.Else1 (callees t) (at-t t) self.Post Inv-loop μ-loop
 inner-of c = c .before .before .before

@@ -14,22 +14,30 @@ use Rattle.sheet.proofs.playing.play.Tie as tie
 returns : tie.Need-returns
 unfolding playedSays refusal wrongAt refusedPlay
 returns c =
-    let a = c .before .before .before .before .args in
+    let at-shared-slice-known = c .before .before .before in
+    let start = at-shared-slice-known .before in
+    let a = start .args in
     let e = too-long (a.text .now) (a.cells .now) (a.out .now) (c .if1 .taken) in
     (ap (λ (p : Play). p .answer) e, ap (λ (p : Play). p .cells) e, ap (λ (p : Play). p .out) e)
 
 returns-2 : tie.Need-returns-2
 unfolding playedSays refusal wrongAt refusedPlay
 returns-2 c =
-    let a = c .before .before .before .before .before .args in
-    let e = short-output (a.text .now) (a.cells .now) (a.out .now) (c .before .if1 .left) (c .if2 .taken) in
+    let else1 = c .before in
+    let at-shared-slice-known = else1 .before .before .before in
+    let start = at-shared-slice-known .before in
+    let a = start .args in
+    let e = short-output (a.text .now) (a.cells .now) (a.out .now) (else1 .if1 .left) (c .if2 .taken) in
     (ap (λ (p : Play). p .answer) e, ap (λ (p : Play). p .cells) e, ap (λ (p : Play). p .out) e)
 
 returns-3 : tie.Need-returns-3
 unfolding playedSays refusal wrongAt refusedPlay
 returns-3 c =
-    let a = c .before .before .before .before .before .before .args in
-    let e = short-cells (a.text .now) (a.cells .now) (a.out .now) (c .before .before .if1 .left) (c .before .if2 .left) (c .if3 .taken) in
+    let else1 = c .before .before in
+    let at-shared-slice-known = else1 .before .before .before in
+    let start = at-shared-slice-known .before in
+    let a = start .args in
+    let e = short-cells (a.text .now) (a.cells .now) (a.out .now) (else1 .if1 .left) (c .before .if2 .left) (c .if3 .taken) in
     (ap (λ (p : Play). p .answer) e, ap (λ (p : Play). p .cells) e, ap (λ (p : Play). p .out) e)
 
 play-sheet-requires : tie.Need-play-sheet-requires
@@ -40,7 +48,9 @@ play-sheet-requires c κs =
     let roomy = read .before in
     let wide = roomy .before in
     let short = wide .before in
-    let a = short .before .before .before .before .args in
+    let at-shared-slice-known = short .before .before .before in
+    let start = at-shared-slice-known .before in
+    let a = start .args in
     let d = read .read-sheet in
     let e = judged-accepted (d .result .judged) (a.text .now) (d .ensures .judges .says) (ap verdict (sym (told .enum-told .given .1))) in
     (e, roomy .if3 .left, wide .if2 .left, d .ensures .gives e, d .ensures .begins)
@@ -53,7 +63,9 @@ returns-4 c =
     let roomy = read .before in
     let wide = roomy .before in
     let short = wide .before in
-    let a = short .before .before .before .before .args in
+    let at-shared-slice-known = short .before .before .before in
+    let start = at-shared-slice-known .before in
+    let a = start .args in
     let d = read .read-sheet in
     let why = told .verdict .given .0 .0 in
     let o = judged-refused (d .result .judged) (a.text .now) (d .ensures .judges .says) (refusal why) (ap verdict (sym (told .verdict .given .1))) (refusal-number why) in
@@ -64,13 +76,16 @@ returns-4 c =
 returns-5 : tie.Need-returns-5
 unfolding playedSays verdict
 returns-5 c =
-    let played = c .before .before .before .before in
+    let at-cells = c .before .before .before in
+    let played = at-cells .before in
     let told = played .before .before .before in
     let read = told .before .before .before in
     let roomy = read .before in
     let wide = roomy .before in
     let short = wide .before in
-    let a = short .before .before .before .before .args in
+    let at-shared-slice-known = short .before .before .before in
+    let start = at-shared-slice-known .before in
+    let a = start .args in
     let j = read .read-sheet in
     let d = played .play-sheet in
     let ok = judged-accepted (j .result .judged) (a.text .now) (j .ensures .judges .says) (ap verdict (sym (told .enum-told .given .1))) in

@@ -22,7 +22,8 @@ use Rattle.sheet.proofs.playing.play_sheet.Tie as tie
 
 play-rounds-requires : tie.Need-play-rounds-requires
 play-rounds-requires c κs =
-    let s = c .before .before .before .before in
+    let at-shared-slice-known = c .before .before .before in
+    let s = at-shared-slice-known .before in
     let a = s .args in
     subst (λ x. Ready x (a.cells .now) (a.text .now) a.from) (sym (s .pre .3))
     (subst (λ k. Ready (reading (a.text .now) .head) (a.cells .now) (a.text .now) k) (sym (s .pre .4))
@@ -31,8 +32,11 @@ play-rounds-requires c κs =
 returns : tie.Need-returns
 returns c =
     let printed = c .before .before in
-    let played = printed .before .before .before .before in
-    let s = played .before .before .before .before .before in
+    let at-cells = printed .before .before .before in
+    let played = at-cells .before in
+    let at-play-rounds-arg = played .before in
+    let at-shared-slice-known = at-play-rounds-arg .before .before .before in
+    let s = at-shared-slice-known .before in
     let g = played .play-rounds in
     let a = s .args in
     let t = a.text .now in

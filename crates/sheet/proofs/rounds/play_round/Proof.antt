@@ -14,8 +14,10 @@ returns : tie.Need-returns
 unfolding playStep
 returns c =
     let closed = c .before .before in
-    let heard = closed .before .before .before .before in
-    let start = heard .before .before .before .before in
+    let at-cells = closed .before .before .before in
+    let heard = at-cells .before in
+    let at-hear-all-arg = heard .before in
+    let start = at-hear-all-arg .before .before .before in
     let a = start .args in
     let fs = framesFrom (a.text .now) a.from in
     let hears = heard .hear-all in

@@ -34,7 +34,8 @@ loop-holds c = (search needs, λ t e. e, refl, refl)
 
 skip-to-step-requires : tie.Need-skip-to-step-requires Inv-loop μ-loop
 skip-to-step-requires c κs =
-    let begun = c .before .before .before .before in
+    let at-cells = c .before .before .before in
+    let begun = at-cells .before in
     let counted = begun .before .before .before in
     omega (arith, counted .steps .ensures)
 
@@ -42,7 +43,8 @@ play-round-requires : tie.Need-play-round-requires Inv-loop μ-loop
 play-round-requires c κs =
     let turned = c .before .before .before in
     let begun = turned .before .before .before in
-    let planned = begun .before .before .before .before in
+    let at-steps = begun .before .before .before in
+    let planned = at-steps .before in
     let start = planned .before .before .before in
     let a = start .args in
     let l = turned .loop in
@@ -60,7 +62,8 @@ loop-again c =
     let skipped = played .before .before in
     let turned = skipped .before .before in
     let begun = turned .before .before .before in
-    let planned = begun .before .before .before .before in
+    let at-steps = begun .before .before .before in
+    let planned = at-steps .before in
     let a = planned .before .before .before .args in
     let l = turned .loop in
     let d = played .play-round in
@@ -87,7 +90,9 @@ returns c =
     let begun = turned .before .before .before in
     let voided = begun .before .before in
     let counted = voided .before in
-    let a = counted .before .before .before .before .args in
+    let at-plan = counted .before in
+    let start = at-plan .before .before .before in
+    let a = start .args in
     let l = turned .loop in
     let d = begun .act-all in
     let fs = framesFrom (a.text .now) a.from in

@@ -22,14 +22,17 @@ returns c =
 
 -- A step after the first.
 numbers : (c : lts.After-struct-known (skip-to-reads.Asked, skip-to-reads.Learnt, rounds-reads.Asked, rounds-reads.Learnt) reads.Pre reads.Post)
-    → Later (c .before .before .before .before .args .plan) (c .before .rounds .result) (c .before .before .before .before .args .j)
+    → let else1 = c .before .before in
+    let a = else1 .before .before .args in
+    Later a.plan (c .before .rounds .result) a.j
 numbers c =
-    let s = c .before .before .before .before in
+    let else1 = c .before .before in
+    let s = else1 .before .before in
     let a = s .args in
     let last = c .before .rounds in
     let round : last .result .0 ≤ 255 = search needs in
     let boards : a.plan .n ≤ 255 = search needs in
-    later a.plan (last .result) a.j (last .ensures) round boards (omega (arith, c .before .before .if1 .left)) (s .pre)
+    later a.plan (last .result) a.j (last .ensures) round boards (omega (arith, else1 .if1 .left)) (s .pre)
 
 sub-later : tie.Need-sub-later
 sub-later c = omega (arith, numbers c .long)
@@ -51,8 +54,11 @@ cast-t15-2 c = record { fits = omega (arith, numbers c .round-fits) }
 
 returns-2 : tie.Need-returns-2
 returns-2 c =
-    let a = c .before .before .before .before .before .args in
-    c .skip-to2 .ensures ∙ ap (λ k. skipFrames k (framesFrom (a.text .now) a.from)) (numbers (c .before) .key)
+    let at-struct-known = c .before in
+    let else1 = at-struct-known .before .before in
+    let start = else1 .before .before in
+    let a = start .args in
+    c .skip-to2 .ensures ∙ ap (λ k. skipFrames k (framesFrom (a.text .now) a.from)) (numbers (at-struct-known) .key)
 
 pub skip-to-step-spec : {M : Type 1} → statement M
 skip-to-step-spec =
