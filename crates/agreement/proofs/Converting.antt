@@ -28,7 +28,7 @@ use Rattle.protocol.specs.declared.records.Rule.the-variants as Rule
 use Rattle.protocol.specs.Detection.{resolveRoot, Scan, explained, byResolving, passes, detectC, detectAllC, detectLevels}
 use Rattle.protocol.specs.Records.{runEnded}
 use Rattle.protocol.specs.Rounds.{Board, rootOnly, convert}
-use Rattle.protocol.proofs.Bounds.{detectC-joined, detectC-kept}
+use Rattle.protocol.proofs.Rules.{detectC-joined, detectC-kept}
 use Rattle.protocol.proofs.Tolerance.{tol, tol-mono}
 use Rattle.protocol.proofs.Listing.{join-has, join-keeps, join-inv}
 use Rattle.agreement.proofs.Instance.{inst, listOf}
@@ -37,7 +37,7 @@ use Rattle.agreement.proofs.Gathering.{explained-inst}
 module _ (p : Plan) (i : ℕ) (run : Run) (round : Round) (cells : List ℕ) where
   detectC-grow : (α : Label) (s r : ℕ) → member r s ≡ true → member r (detectC p i run round cells α s) ≡ true
   detectC-grow α s r h =
-      cases (passes p α (byResolving p i cells α) s) (λ e. rw (detectC-kept p i run round cells α s e) h) (λ e. rw (detectC-joined p i run round cells α s e) (join-keeps run round Rule.C (length α) (last α) s r h))
+      cases (passes p α (byResolving p i cells α) s) (λ e. rw (detectC-kept p i run round α cells s e) h) (λ e. rw (detectC-joined p i run round α cells s e) (join-keeps run round Rule.C (length α) (last α) s r h))
 
   level-grow : (αs : List Label) (s r : ℕ) → member r s ≡ true → member r (detectAllC p i run round cells αs s) ≡ true
   unfolding detectAllC
@@ -70,11 +70,11 @@ module _ (p : Plan) (i : ℕ) (run : Run) (round : Round) (cells : List ℕ) whe
   unfolding passes explained tol
   spared-here α s u =
       cases (passes p α (byResolving p i cells α) s)
-      (λ e. let new = subst (λ x. member (last α) x ≡ false) (detectC-kept p i run round cells α s e) u in
+      (λ e. let new = subst (λ x. member (last α) x ≡ false) (detectC-kept p i run round α cells s e) u in
       let why : explained p α (byResolving p i cells α) s ≡ true =
       ⊎-elim (λ t. clash t new) (λ t. t) (or-true (member (last α) s) (explained p α (byResolving p i cells α) s) e) in
       any-true (λ v. tolerated (listed p) (setOf (λ c. (not (occurs c α) && not (same (byResolving p i cells α c) (some v))) || member c s) (p .n))) (p .span) why)
-      (λ e. clash (join-has run round Rule.C (length α) (last α) s) (subst (λ x. member (last α) x ≡ false) (detectC-joined p i run round cells α s e) u))
+      (λ e. clash (join-has run round Rule.C (length α) (last α) s) (subst (λ x. member (last α) x ≡ false) (detectC-joined p i run round α cells s e) u))
 
   level-spared : (αs : List Label) (s : ℕ) (α : Label) → List·Memᴰ α αs → member (last α) (detectAllC p i run round cells αs s) ≡ false → SparedBy s α
   unfolding detectAllC
@@ -111,14 +111,14 @@ module _ (p : Plan) (i : ℕ) (run : Run) (round : Round) (cells : List ℕ) whe
     unfolding passes
     detectC-sound α s N mind sound q lq t =
         cases (passes p α (byResolving p i cells α) s)
-        (λ e. sound q lq (subst (λ x. member q x ≡ true) (detectC-kept p i run round cells α s e) t))
+        (λ e. sound q lq (subst (λ x. member q x ≡ true) (detectC-kept p i run round α cells s e) t))
         (λ e. ⊎-elim
         (λ x. is-true (member q F) (λ out.
         let (v, lv, u) = mind (subst (λ z. member z F ≡ false) x out) in
         clash (explained-inst p α (byResolving p i cells α) s ∙ spared G v (byResolving p i cells α) (listOf s) N lv u sound)
         (or-r (member (last α) s) (explained p α (byResolving p i cells α) s) e)))
         (sound q lq)
-        (join-inv run round Rule.C (length α) (last α) s q (subst (λ x. member q x ≡ true) (detectC-joined p i run round cells α s e) t)))
+        (join-inv run round Rule.C (length α) (last α) s q (subst (λ x. member q x ≡ true) (detectC-joined p i run round α cells s e) t)))
 
     level-sound : (αs : List Label) (s : ℕ) → ((α : Label) → List·Memᴰ α αs → (left : ℕ) × T.Node (inst p) i left α × Minds α) → Sound s
         → Sound (detectAllC p i run round cells αs s)

@@ -30,8 +30,8 @@ use Rattle.theory.specs.Runs as R
 use Rattle.theory.proofs.Soundness.{spared}
 use Rattle.protocol.specs.Nodes.{read, nodes, inner}
 use Rattle.protocol.specs.declared.records.Rule.the-variants as Rule
-use Rattle.protocol.specs.Listing.{join}
 use Rattle.protocol.specs.Detection.{explained, byCell, passes, Scan, maskBoard, detectG, detectAllG}
+use Rattle.protocol.proofs.Rules.{detectG-joined, detectG-kept}
 use Rattle.protocol.proofs.Nodes.{no-node, inner-inv, node-label, node-has}
 use Rattle.protocol.proofs.Fill.{IsLabel, label-dec, value-default}
 use Rattle.protocol.proofs.Local.{detectG-length}
@@ -73,28 +73,19 @@ module _ (p : Plan) (l : p .dealer < p .n) (i : ℕ) where
 module _ (p : Plan) (l : p .dealer < p .n) (i : ℕ) (run : Run) (round : Round) where
   -- One node.
   module _ (k : ℕ) (α : Label) (w : List·Memᴰ α (inner p i k)) where
-    pub detectG-kept : (s : Scan) → passes p α (byCell p (s .cells) α) (s .detected) ≡ true → detectG p i run round α s ≡ s
-    unfolding detectG
-    detectG-kept s e = rw e
-
-    pub detectG-joined : (s : Scan) → passes p α (byCell p (s .cells) α) (s .detected) ≡ false
-        → detectG p i run round α s ≡ record { detected = join (last α) run round Rule.G (length α) (s .detected); cells = maskBoard p (last α) (nodes p i (suc (length α))) (s .cells) }
-    unfolding detectG
-    detectG-joined s e = rw e
-
     pub detectG-grow : (s : Scan) (r : ℕ) → member r (s .detected) ≡ true → member r (detectG p i run round α s .detected) ≡ true
     detectG-grow s r h =
         cases (passes p α (byCell p (s .cells) α) (s .detected))
-        (λ e. rw (detectG-kept s e) h)
-        (λ e. rw (detectG-joined s e) (join-keeps run round Rule.G (length α) (last α) (s .detected) r h))
+        (λ e. rw (detectG-kept p i run round α s e) h)
+        (λ e. rw (detectG-joined p i run round α s e) (join-keeps run round Rule.G (length α) (last α) (s .detected) r h))
 
     pub detectG-cell : (s : Scan) (b : ℕ) (δ : Label) → IsLabel p l b δ → cellCount (p .n) ≤ length (s .cells)
         → (read p (detectG p i run round α s .cells) δ ≡ read p (s .cells) δ) ⊎ ((read p (detectG p i run round α s .cells) δ ≡ default p) × (member (last δ) (detectG p i run round α s .detected) ≡ true))
     unfolding read
     detectG-cell s b δ m room =
         cases (passes p α (byCell p (s .cells) α) (s .detected))
-        (λ e. inl (rw (detectG-kept s e)))
-        (λ e. rw (detectG-joined s e)
+        (λ e. inl (rw (detectG-kept p i run round α s e)))
+        (λ e. rw (detectG-joined p i run round α s e)
         (⊎-elim
         (λ q. inl (ap (value p) q))
         (λ q. inr (ap (value p) (q .0) ∙ value-default p, rw (q .1) (join-has run round Rule.G (length α) (last α) (s .detected))))
@@ -144,7 +135,7 @@ module _ (p : Plan) (l : p .dealer < p .n) (i : ℕ) (run : Run) (round : Round)
     unfolding passes explained byCell last tol
     spared-here α αs s w h room u =
         cases (passes p α (byCell p (s .cells) α) (s .detected))
-        (λ e. let kept = detectG-kept k α w s e in
+        (λ e. let kept = detectG-kept p i run round α s e in
         let u′ : member (last α) (detectAllG p i run round αs s .detected) ≡ false = subst (λ x. member (last α) (detectAllG p i run round αs x .detected) ≡ false) kept u in
         let new : member (last α) (s .detected) ≡ false = is-false (member (last α) (s .detected)) (λ t. clash (scan-grow αs s (last α) h t) u′) in
         let why : explained p α (byCell p (s .cells) α) (s .detected) ≡ true =
@@ -166,7 +157,7 @@ module _ (p : Plan) (l : p .dealer < p .n) (i : ℕ) (run : Run) (round : Round)
               (subst (λ x. (not (occurs c α) && not (same (some x) (some v))) ≡ true) cell oth))
               t,
         ))
-        (λ e. let joined = detectG-joined k α w s e in
+        (λ e. let joined = detectG-joined p i run round α s e in
         clash (scan-grow αs (detectG p i run round α s) (last α) h (rw joined (join-has run round Rule.G (length α) (last α) (s .detected)))) u)
 
     pub scan-spared : (αs : List Label) (s : Scan) (α : Label) → Level k αs → List·Memᴰ α αs → cellCount (p .n) ≤ length (s .cells)
@@ -195,7 +186,7 @@ module _ (p : Plan) (l : p .dealer < p .n) (i : ℕ) (run : Run) (round : Round)
       unfolding passes byCell
       detectG-sound α s N w mind sound q lq t =
           cases (passes p α (byCell p (s .cells) α) (s .detected))
-          (λ e. sound q lq (subst (λ x. member q (x .detected) ≡ true) (detectG-kept k α w s e) t))
+          (λ e. sound q lq (subst (λ x. member q (x .detected) ≡ true) (detectG-kept p i run round α s e) t))
           (λ e. ⊎-elim
           (λ x. is-true (member q F) (λ out.
           let (v, lv, same-value) = mind (subst (λ z. member z F ≡ false) x out) in
@@ -203,7 +194,7 @@ module _ (p : Plan) (l : p .dealer < p .n) (i : ℕ) (run : Run) (round : Round)
           ∙ spared G v (byCell p (s .cells) α) (listOf (s .detected)) N lv (λ c C a. ap some (same-value c C a)) sound)
           (or-r (member (last α) (s .detected)) (explained p α (byCell p (s .cells) α) (s .detected)) e)))
           (sound q lq)
-          (join-inv run round Rule.G (length α) (last α) (s .detected) q (subst (λ x. member q (x .detected) ≡ true) (detectG-joined k α w s e) t)))
+          (join-inv run round Rule.G (length α) (last α) (s .detected) q (subst (λ x. member q (x .detected) ≡ true) (detectG-joined p i run round α s e) t)))
 
       pub scan-sound : (αs : List Label) (s : Scan) {j : ℕ} → ((α : Label) → List·Memᴰ α αs → T.Node (inst p) i j α) → Level k αs
           → cellCount (p .n) ≤ length (s .cells) → ((α : Label) → List·Memᴰ α αs → Minds s α) → Sound s → Sound (detectAllG p i run round αs s)

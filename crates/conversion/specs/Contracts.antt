@@ -1,4 +1,4 @@
--- What rule C asks, and what converting leaves.
+-- What rule C asks, and what converting leaves. A middle layer: what converting does is `convert` of the protocol.
 use Prim.Native.Nat.{ℕ, _+_, _-_, _≤_, _<_}
 use mathlib.Core.Path.{_≡_}
 use mathlib.Core.Bool.{false}

@@ -1,4 +1,4 @@
--- Frame lines as the code reads them, their keys, and what is found among them.
+-- Frame lines as the code reads them, their keys, and what is found among them. A middle layer: a frame line is `frameLine` of the protocol.
 use Prim.Native.Nat.{ℕ, _+_, _-_, _*_, _/_, min}
 use mathlib.Core.Path.{_≡_}
 use mathlib.Core.Bool.{Bool, true, _&&_, cond}

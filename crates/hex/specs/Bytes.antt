@@ -1,4 +1,4 @@
--- The bytes of a line of digits where they stand, as the code reads them.
+-- The bytes of a line of digits where they stand, as the code reads them. A middle layer: the bytes of digits are `bytesOf`.
 use Prim.Native.Nat.{ℕ, zero, suc, _+_, _*_}
 use mathlib.Core.Bool.{Bool, true, false}
 use mathlib.Core.List.{List, [], _∷_}

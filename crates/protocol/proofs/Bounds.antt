@@ -2,7 +2,7 @@
 -- Assumes nothing.
 use Prim.Native.Nat.{ℕ, zero, suc, _-_, _<_, _^_, _+_}
 use mathlib.Core.Path.{_≡_, refl, _∙_, ap}
-use mathlib.Core.Bool.{true, false, Bool}
+use mathlib.Core.Bool.{Bool}
 use mathlib.Core.List.{List, _∷_, List·Memᴰ, List·Memᴰ·head, List·Memᴰ·tail, []}
 use mathlib.Core.Option.{Option, some, none, Option·getD}
 use native.Mathlib.Omega.{arith}
@@ -22,11 +22,11 @@ use Rattle.tree.specs.Cells.{cellAt}
 use Rattle.tree.proofs.Labels.{no-label, root-inv, label-inv}
 use Rattle.protocol.specs.Nodes.{read, internal, inner}
 use Rattle.protocol.specs.declared.records.Rule.the-variants as Rule
-use Rattle.protocol.specs.Listing.{join}
 use Rattle.protocol.specs.Detection.{vote, resolve, resolveRoot, byCell, byResolving, passes, Scan, detectG, detectAllG, detectC, detectAllC, detectLevels, tabulate}
 use Rattle.protocol.specs.Rounds.{Board, gather}
 use Rattle.protocol.proofs.Nodes.{inner-inv, node-label}
 use Rattle.protocol.proofs.Listing.{join-below}
+use Rattle.protocol.proofs.Rules.{detectG-joined, detectG-kept, detectC-joined, detectC-kept}
 
 module _ (p : Plan) (some-value : 0 < p .span) where
   pub default-small : default p < p .span
@@ -74,16 +74,6 @@ last-below n d zero α l m = absurd (no-label n d α m)
 last-below n d (suc zero) α l m = rw (root-inv n d α m) l
 last-below n d (suc (suc k)) α l m = let (β, w, (q, x, lq, a)) = label-inv n d k α m in rw x lq
 
--- Rule C at a node: a board whose children no value explains, with the list, joins it; else the list stays.
-module _ (p : Plan) (i : ℕ) (run : Run) (round : Round) (cells : List ℕ) (α : Label) (s : ℕ) where
-  pub detectC-joined : passes p α (byResolving p i cells α) s ≡ false → detectC p i run round cells α s ≡ join (last α) run round Rule.C (length α) s
-  unfolding detectC
-  detectC-joined e = rw e
-
-  pub detectC-kept : passes p α (byResolving p i cells α) s ≡ true → detectC p i run round cells α s ≡ s
-  unfolding detectC
-  detectC-kept e = rw e
-
 module _ (p : Plan) (l : p .dealer < p .n) (i : ℕ) where
   -- These are nodes.
   abbrev pub Inner : List Label → Type 0
@@ -94,20 +84,20 @@ module _ (p : Plan) (l : p .dealer < p .n) (i : ℕ) where
 
   module _ (run : Run) (round : Round) where
     pub detectG-below : (αs : List Label) (s : Scan) → Inner αs → s .detected < 2 ^ p .n → detectAllG p i run round αs s .detected < 2 ^ p .n
-    unfolding detectAllG detectG
+    unfolding detectAllG
     detectG-below [] s h b = b
     detectG-below (α ∷ αs) s h b =
         detectG-below αs (detectG p i run round α s) (λ β w. h β (List·Memᴰ·tail w))
-        (cases (passes p α (byCell p (s .cells) α) (s .detected)) (λ e. rw e b)
-        (λ e. rw e (join-below run round Rule.G (length α) (p .n) (last α) (s .detected) (inner-below α (h α (List·Memᴰ·head refl))) b)))
+        (cases (passes p α (byCell p (s .cells) α) (s .detected)) (λ e. rw (detectG-kept p i run round α s e) b)
+        (λ e. rw (detectG-joined p i run round α s e) (join-below run round Rule.G (length α) (p .n) (last α) (s .detected) (inner-below α (h α (List·Memᴰ·head refl))) b)))
 
     pub detectC-below : (cells : List ℕ) (αs : List Label) (s : ℕ) → Inner αs → s < 2 ^ p .n → detectAllC p i run round cells αs s < 2 ^ p .n
     unfolding detectAllC
     detectC-below cells [] s h b = b
     detectC-below cells (α ∷ αs) s h b =
         detectC-below cells αs (detectC p i run round cells α s) (λ β w. h β (List·Memᴰ·tail w))
-        (cases (passes p α (byResolving p i cells α) s) (λ e. rw (detectC-kept p i run round cells α s e) b)
-        (λ e. rw (detectC-joined p i run round cells α s e) (join-below run round Rule.C (length α) (p .n) (last α) s (inner-below α (h α (List·Memᴰ·head refl))) b)))
+        (cases (passes p α (byResolving p i cells α) s) (λ e. rw (detectC-kept p i run round α cells s e) b)
+        (λ e. rw (detectC-joined p i run round α cells s e) (join-below run round Rule.C (length α) (p .n) (last α) s (inner-below α (h α (List·Memᴰ·head refl))) b)))
 
     pub levels-below : (cells : List ℕ) (k s : ℕ) → s < 2 ^ p .n → detectLevels p i run round cells k s < 2 ^ p .n
     unfolding detectLevels

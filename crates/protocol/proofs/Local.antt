@@ -18,6 +18,7 @@ use Rattle.tree.proofs.Cells.{store-length, store-other}
 use Rattle.protocol.specs.declared.records.Record.{Record}
 use Rattle.plan.specs.Values.{default}
 use Rattle.protocol.specs.Nodes.{nodes, inner, sent, due, frame}
+use Rattle.protocol.proofs.Rules.{detectG-joined, detectG-kept}
 use Rattle.protocol.specs.Detection.{Scan, maskBoard, byCell, passes, detectG, detectAllG}
 use Rattle.protocol.specs.Rounds.{boardWith, fill, fillMissing, copyOwn, gather}
 use Rattle.protocol.proofs.Nodes.{inner-inv, node-label, node-length, sent-node}
@@ -64,18 +65,16 @@ module _ (p : Plan) (l : p .dealer < p .n) (i : ℕ) where
     next-level = omega (arith, node-length p i (k - 1) α (inner-inv p i (k - 1) α m .0))
 
     pub detectG-outside : (s : Scan) → SameOutside k (s .cells) (detectG p i run round α s .cells)
-    unfolding detectG
     detectG-outside s b γ w out =
         cases (passes p α (byCell p (s .cells) α) (s .detected))
-        (λ e. rw e)
-        (λ e. rw e (mask-outside (last α) k (nodes p i (suc (length α))) (s .cells) (λ x h. subst (λ z. List·Memᴰ x (nodes p i z)) next-level h) b γ w out))
+        (λ e. rw (detectG-kept p i run round α s e) refl)
+        (λ e. rw (detectG-joined p i run round α s e) (mask-outside (last α) k (nodes p i (suc (length α))) (s .cells) (λ x h. subst (λ z. List·Memᴰ x (nodes p i z)) next-level h) b γ w out))
 
     pub detectG-length : (s : Scan) → length (detectG p i run round α s .cells) ≡ length (s .cells)
-    unfolding detectG
     detectG-length s =
         cases (passes p α (byCell p (s .cells) α) (s .detected))
-        (λ e. rw e)
-        (λ e. rw e (mask-length (last α) (nodes p i (suc (length α))) (s .cells)))
+        (λ e. rw (detectG-kept p i run round α s e) refl)
+        (λ e. rw (detectG-joined p i run round α s e) (mask-length (last α) (nodes p i (suc (length α))) (s .cells)))
 
   -- All of rule G.
   pub detect-outside : (run : Run) (round : Round) (k : ℕ) (αs : List Label) (s : Scan) → ((α : Label) → List·Memᴰ α αs → List·Memᴰ α (inner p i (k - 1))) → 1 ≤ k

@@ -1,4 +1,4 @@
--- What resolving asks, and what it leaves.
+-- What resolving asks, and what it leaves. A middle layer: what a node resolves to is `resolve` of the protocol.
 use Prim.Native.Nat.{ℕ, _+_, _-_, _≤_, _<_}
 use mathlib.Core.Path.{_≡_}
 use mathlib.Core.Logic.{_≢_}

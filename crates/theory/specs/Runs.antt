@@ -1,4 +1,4 @@
--- What one run and a session of runs give: the hypotheses of the theory.
+-- What one run and a session of runs give: the hypotheses of the theory. A middle layer: the session is shown to meet them.
 -- Assumes nothing.
 use Prim.Native.Nat.{ℕ, suc, _<_}
 use mathlib.Core.Path.{_≡_}

@@ -1,4 +1,4 @@
--- The tree of a plan, what is asked of a plan, and how a board resolves a node.
+-- The tree of a plan, what is asked of a plan, and how a board resolves a node. A middle layer: `agreement` shows that a plan of the protocol is one.
 -- Assumes nothing.
 use Prim.Native.Nat.{ℕ, zero, suc, _<_}
 use mathlib.Core.Path.{_≡_}

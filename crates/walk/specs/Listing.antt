@@ -1,4 +1,4 @@
--- What the walk asks, and what it leaves: the records of its contracts.
+-- What the walk asks, and what it leaves: the records of its contracts. A middle layer: which nodes a frame carries is `carried` of the protocol.
 use Prim.Native.Nat.{ℕ, _+_, _-_, _^_, _≤_, _<_}
 use mathlib.Core.Path.{_≡_}
 use mathlib.Core.List.{List, _++_, map}
