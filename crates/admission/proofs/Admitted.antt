@@ -8,9 +8,11 @@ use mathlib.Core.List.{List}
 use native.Mathlib.Omega.{arith}
 use lib.Dec.{eqb, ltb}
 use borrow.Author.Tests.{eqb-false, ltb-false}
-use Rattle.admission.specs.Cover.{strays, covered, places}
+use Rattle.admission.specs.Calls.{strays}
+use Rattle.covering.specs.Cover.{covered, places}
 use Rattle.refusals.specs.Outcome.{refused, refusedAt}
-use Rattle.admission.specs.Calls.{covering, admitting}
+use Rattle.covering.specs.Cover.{covering}
+use Rattle.admission.specs.Calls.{admitting}
 use Rattle.sets.proofs.Tests.{or-l, or-r}
 use Rattle.refusals.proofs.Outcomes.{passed}
 

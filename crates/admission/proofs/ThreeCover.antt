@@ -13,15 +13,18 @@ use borrow.Author.Tests.{lt-ltb, le-ltb, ne-eqb, ltb-true, ltb-false, leb-true, 
 use Rattle.sets.specs.Search.{any}
 use Rattle.sets.specs.Sets.{member, within, boards}
 use Rattle.sets.specs.Structure.{tolerated}
-use Rattle.admission.specs.Cover.{strays, covered, places, thirdPlace, secondPlace, firstPlace}
+use Rattle.admission.specs.Calls.{strays}
+use Rattle.covering.specs.Cover.{covered, places, thirdPlace, secondPlace, firstPlace}
 use Rattle.refusals.specs.Outcome.{refusedAt}
-use Rattle.admission.specs.Calls.{admitting, covering}
-use Rattle.admission.specs.Claims.{Cover, Within, ListedCover, ToleratedCover, ThreeCover}
+use Rattle.admission.specs.Calls.{admitting}
+use Rattle.covering.specs.Cover.{covering}
+use Rattle.covering.specs.Triples.{Cover}
+use Rattle.admission.specs.Claims.{Within, ListedCover, ToleratedCover, ThreeCover}
 use Rattle.sets.proofs.Tests.{cases, clash, is-false, or-true, or-left, or-right, or-l, or-r, not-t, not-f}
 use Rattle.sets.proofs.Search.{any-true, any-false}
 use Rattle.sets.proofs.Member.{within-member, member-within, member-boards, member-empty, within-refl}
 use Rattle.sets.proofs.Tolerated.{listed-tolerated, tolerated-listed}
-use Rattle.admission.proofs.Cover.{CoverAt, swap-left, swap-right, found-of, first-triple}
+use Rattle.covering.proofs.Cover.{CoverAt, swap-left, swap-right, found-of, first-triple}
 
 below-pow : (n : ℕ) → n < 2 ^ n
 below-pow zero = omega arith

@@ -1,14 +1,17 @@
 -- The public call that admits a list of sets.
 use Prim.Native.Nat.{ℕ}
-use mathlib.Core.Bool.{_||_, cond}
-use mathlib.Core.List.{List, []}
+use mathlib.Core.Bool.{Bool, not, _||_, cond}
+use mathlib.Core.List.{List}
 use lib.Dec.{eqb, ltb}
-use Rattle.admission.specs.Cover.{strays, covered, places}
-use Rattle.refusals.specs.Outcome.{Outcome, taken, refused, refusedAt}
+use lib.ListN.{length, getD}
+use Rattle.sets.specs.Search.{any}
+use Rattle.sets.specs.Sets.{within, boards}
+use Rattle.covering.specs.Cover.{covering}
+use Rattle.refusals.specs.Outcome.{Outcome, refused}
 
--- 01, 'Admitting sets', 5: three sets cover all boards, with the places of the first such triple.
-unfoldable pub covering : ℕ → List ℕ → Outcome
-covering n sets = let triple = refusedAt (places n sets) in cond (covered n sets) triple (taken [])
+-- Number 4: a set names board n or above.
+unfoldable pub strays : ℕ → List ℕ → Bool
+strays n sets = any (λ i. not (within (getD sets i 0) (boards n))) (length sets)
 
 -- 01, 'Admitting sets': the first of 1 to 5 that applies to `count` sets.
 unfoldable pub admitting : ℕ → ℕ → List ℕ → Outcome

@@ -1,17 +1,14 @@
 -- Demand 2, second sentence: "A list of sets within the limits is refused exactly if three of them, repeats allowed, cover all boards."
 use Prim.Native.Nat.{ℕ, _≤_, _<_}
 use mathlib.Core.Path.{_≡_}
-use mathlib.Core.Bool.{true, _||_}
+use mathlib.Core.Bool.{true}
 use mathlib.Core.List.{List, [], _∷_}
 use mathlib.Core.Logic.{_⊎_, _↔_}
 use lib.ListN.{length, getD}
 use Rattle.sets.specs.Sets.{member}
 use Rattle.sets.specs.Structure.{tolerated}
+use Rattle.covering.specs.Triples.{Cover, FirstTriple}
 use Rattle.admission.specs.Calls.{admitting}
-
--- Every board below n is in a, b or c.
-abbrev pub Cover : ℕ → ℕ → ℕ → ℕ → Type 0
-Cover n a b c = (q : ℕ) → q < n → (member q a || (member q b || member q c)) ≡ true
 
 -- Every set is a byte that names boards below n only.
 abbrev pub Names : ℕ → List ℕ → Type 0
@@ -35,18 +32,6 @@ ListedCover n sets =
 abbrev pub ToleratedCover : ℕ → List ℕ → Type 0
 ToleratedCover n sets =
     (a : ℕ) × (b : ℕ) × (c : ℕ) × (tolerated sets a ≡ true) × (tolerated sets b ≡ true) × (tolerated sets c ≡ true) × Cover n a b c
-
--- (i, j, k) stands no later than (x, y, z), ordered by the first, then the second, then the third.
-abbrev pub NoLater : ℕ → ℕ → ℕ → ℕ → ℕ → ℕ → Type 0
-NoLater i j k x y z = (i < x) ⊎ ((i ≡ x) × ((j < y) ⊎ ((j ≡ y) × (k ≤ z))))
-
--- (i, j, k) are the places of the first covering triple.
-pub record FirstTriple (n : ℕ) (sets : List ℕ) (i j k : ℕ) : Type 0 where
-  pub ordered : (i ≤ j) × (j ≤ k) × (k < length sets)
-  pub covering : Cover n (getD sets i 0) (getD sets j 0) (getD sets k 0)
-  pub earliest : (x y z : ℕ) → x ≤ y → y ≤ z → z < length sets
-      → Cover n (getD sets x 0) (getD sets y 0) (getD sets z 0)
-      → NoLater i j k x y z
 
 pub record RefusedByFive (n : ℕ) (sets : List ℕ) : Type 0 where
   -- within the limits the answer is 0 or 5

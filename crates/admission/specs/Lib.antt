@@ -1,4 +1,2 @@
-pub mod Cover
-pub mod Pairs
 pub mod Calls
 pub mod Claims

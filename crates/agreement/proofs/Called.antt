@@ -7,7 +7,7 @@ use Rattle.codec.specs.Codec.{decode}
 use Rattle.sets.proofs.Tests.{cases}
 use Rattle.protocol.specs.Rounds.{Board}
 use Rattle.protocol.specs.Calls.{receiving}
-use Rattle.protocol.proofs.Reached.{Reached, reached-taking, reached-closing}
+use Rattle.synchronous.proofs.Reached.{Reached, reached-taking, reached-closing}
 use Rattle.agreement.specs.Lists.{Call, receives, sends, closes, decides, leaves, caller, step, after}
 
 pub reached-after : (calls : List Call) (w : ℕ → Board) (i : ℕ) → Reached (w i) → Reached (after w calls i)

@@ -18,7 +18,7 @@ use Rattle.sets.proofs.Tests.{cases, and-true, not-f, true-not}
 use Rattle.sets.proofs.Search.{any-false}
 use Rattle.sets.proofs.Member.{within-boards}
 use Rattle.sets.proofs.Tolerated.{tolerated-listed}
-use Rattle.admission.specs.Cover.{strays}
+use Rattle.admission.specs.Calls.{strays}
 use Rattle.plan.specs.declared.plan.Plan.{Plan}
 use Rattle.plan.specs.Listed.{listed}
 use Rattle.plan.specs.Calls.{judged}
@@ -34,12 +34,12 @@ use Rattle.protocol.specs.Session.{Adversary, Setting, hears, at, keeper, Sound
 use Rattle.protocol.specs.declared.records.Record.{Record}
 use Rattle.protocol.proofs.Nodes.{sent-same, sent-has, inner-inv, node-label}
 use Rattle.protocol.proofs.Fill.{IsLabel}
-use Rattle.protocol.proofs.Local.{detect-outside}
+use Rattle.synchronous.proofs.Local.{detect-outside}
 use Rattle.protocol.proofs.Judgement.{plan-facts, Good, good-dealer}
 use Rattle.protocol.proofs.Bounds.{read-small}
-use Rattle.protocol.proofs.Reached.{other-level}
-use Rattle.protocol.proofs.Hearing.{filled, filled-outside, delivered, copied}
-use Rattle.protocol.proofs.Synchronous.{told, keeper-facts, Standing, standing, canon}
+use Rattle.synchronous.proofs.Reached.{other-level}
+use Rattle.synchronous.proofs.Hearing.{filled, filled-outside, delivered, copied}
+use Rattle.synchronous.proofs.Synchronous.{told, keeper-facts, Standing, standing, canon}
 use Rattle.agreement.proofs.Instance.{inst, inst-good, listOf}
 
 -- A tolerated set of an accepted plan names boards below n only.

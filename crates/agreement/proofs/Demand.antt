@@ -19,7 +19,8 @@ use Rattle.plan.specs.declared.plan.Plan.{Plan}
 use Rattle.plan.specs.Calls.{judged}
 use Rattle.schedule.specs.declared.rounds.Run.{Run}
 use Rattle.schedule.specs.declared.rounds.Round.{Round}
-use Rattle.schedule.specs.Schedule.{depthOf, isCut, rounds, runs, steps, stepRun}
+use Rattle.heights.specs.Levels.{depthOf, isCut}
+use Rattle.schedule.specs.Schedule.{rounds, runs, steps, stepRun}
 use Rattle.schedule.specs.Schedule as S
 use Rattle.schedule.proofs.Steps.{step-has, step-of-round}
 use Rattle.tree.specs.Cells.{blank}
@@ -28,8 +29,8 @@ use Rattle.protocol.specs.Rounds.{Board}
 use Rattle.protocol.specs.Calls.{judgeOpen, judgeRecord, judgeBoard, judgeBeginning, deciding}
 use Rattle.protocol.specs.Session.{Adversary, Setting, begun, at, keeper, Sound}
 use Rattle.protocol.proofs.Judgement.{open-taken, record-taken, board-taken, cells-taken, Good}
-use Rattle.protocol.proofs.Reached.{reached-begun}
-use Rattle.protocol.proofs.Synchronous.{keeper-facts}
+use Rattle.synchronous.proofs.Reached.{reached-begun}
+use Rattle.synchronous.proofs.Synchronous.{keeper-facts}
 use Rattle.protocol.proofs.Taken.{open-closing}
 use Rattle.agreement.specs.Lists.{Call, closes, decides, caller, answers, state, Prefix, Stands, Fair, closings, EndsRun, root, list, onEvery, listAfter, Agreement, Demand3}
 use Rattle.agreement.specs.Claims.{SessionAgreement, ended, rootAfter, listEnded}
@@ -37,7 +38,7 @@ use Rattle.agreement.proofs.Runs.{lists-grow}
 use Rattle.agreement.proofs.Session.{synchronous}
 use Rattle.agreement.proofs.Prefixes.{prefix-refl, prefix-trans, stands-prefix, stands-next}
 use Rattle.agreement.proofs.Called.{reached-after}
-use Rattle.agreement.proofs.Whereabouts.{adversary, InStep, in-step, below-or-end, closings-mono, closings-next, closed-state}
+use Rattle.agreement.proofs.InStep.{adversary, InStep, in-step, below-or-end, closings-mono, closings-next, closed-state}
 
 -- What a decision that was read says.
 deciding-facts : (r : Record) (v : ℕ) → deciding r ≡ taken (v ∷ []) → (r .decided ≡ true) × (r .decision ≡ v)

@@ -13,7 +13,7 @@ use native.Mathlib.Omega.{arith}
 use lib.Dec.{eqb, leb, ltb}
 use borrow.Author.Tests.{eqb-true, eqb-false, eq-eqb, ne-eqb, ltb-true, ltb-false, le-leb, lt-leb}
 use Rattle.sets.proofs.Tests.{cases, clash, is-false}
-use Rattle.protocol.proofs.AnyOrder.{update, update-here, update-other}
+use Rattle.synchronous.proofs.AnyOrder.{update, update-here, update-other}
 use Rattle.agreement.proofs.Prefixes.{Prefix, Stands, prefix-refl, prefix-trans, stands-prefix, stands-next, along}
 
 -- Boards

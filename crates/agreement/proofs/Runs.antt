@@ -28,11 +28,11 @@ use Rattle.protocol.specs.Session.{Adversary, Setting, at, takeAll, keeper, Sou
 use Rattle.protocol.proofs.Nodes.{node-label, node-has}
 use Rattle.protocol.proofs.Fill.{IsLabel}
 use Rattle.protocol.proofs.Tolerance.{tol, tol-mono}
-use Rattle.protocol.proofs.Hearing.{silenced}
-use Rattle.protocol.proofs.Synchronous.{told, keeper-facts, standing, position, number, next-position}
+use Rattle.synchronous.proofs.Hearing.{silenced}
+use Rattle.synchronous.proofs.Synchronous.{told, keeper-facts, standing, position, number, next-position}
 use Rattle.agreement.proofs.Instance.{inst, resolve-inst}
-use Rattle.agreement.proofs.Gathering.{scan-grow, scan-cell, scan-spared, SparedBy}
-use Rattle.agreement.proofs.Converting.{levels-spared, convert-grow}
+use Rattle.agreement.proofs.RuleG.{scan-grow, scan-cell, scan-spared, SparedBy}
+use Rattle.agreement.proofs.RuleC.{levels-spared, convert-grow}
 use Rattle.agreement.proofs.Delivery.{is-due, st, rec, rec-good, scanned, scanned-other}
 use Rattle.agreement.proofs.Soundness.{open-round, inv, scan-is, within-run, run-ends, room, dealer-below, lists-within}
 

@@ -16,9 +16,10 @@ use Rattle.sets.proofs.Search.{any-same}
 use Rattle.sets.proofs.Count.{count-same}
 use Rattle.sets.proofs.Member.{member-within, member-setOf, setOf-below, size-count}
 use Rattle.plan.specs.declared.plan.Plan.{Plan}
-use Rattle.schedule.specs.Schedule.{depthOf, isCut, rounds, runs, steps, stepRun}
+use Rattle.heights.specs.Levels.{depthOf, isCut}
+use Rattle.schedule.specs.Schedule.{rounds, runs, steps, stepRun}
 use Rattle.schedule.proofs.Levels.{rounds-pos, runs-pos, rounds-full, rounds-cut}
-use Rattle.schedule.proofs.Height.{height-most}
+use Rattle.heights.proofs.Heights.{height-most}
 use Rattle.schedule.proofs.Steps.{runs-enough, cut-four}
 use Rattle.tree.specs.Cells.{blank}
 use Rattle.theory.specs.Tree as T
@@ -30,14 +31,14 @@ use Rattle.protocol.specs.Rounds.{Board, rootOnly, convert, close}
 use Rattle.protocol.specs.Session.{Adversary, Setting, at, keeper, Sound}
 use Rattle.protocol.proofs.Judgement.{plan-facts}
 use Rattle.protocol.proofs.Tolerance.{tol}
-use Rattle.protocol.proofs.Reached.{close-good, close-plan}
-use Rattle.protocol.proofs.Synchronous.{standing, ready, ready-open, after-step}
+use Rattle.synchronous.proofs.Reached.{close-good, close-plan}
+use Rattle.synchronous.proofs.Synchronous.{standing, ready, ready-open, after-step}
 use Rattle.agreement.specs.Lists.{onEvery}
 use Rattle.agreement.specs.Claims.{ended, rootAfter, listEnded, SessionAgreement, Synchronous}
 use Rattle.agreement.proofs.Instance.{inst, listOf}
 use Rattle.agreement.proofs.Delivery.{good, healthy, healthy-keeper, st}
 use Rattle.agreement.proofs.Soundness.{open-round, inv, run-ends, lists-within}
-use Rattle.agreement.proofs.Agreement.{last-step, in-time, at-end, number, run-number, lists, roots, resolved, left-root, session}
+use Rattle.agreement.proofs.TheorySession.{last-step, in-time, at-end, number, run-number, lists, roots, resolved, left-root, session}
 
 module _ (s : Setting) (a : Adversary) (sound : Sound s) where
   abbrev plan : Plan

@@ -37,11 +37,11 @@ use Rattle.protocol.proofs.Nodes.{inner-moves, inner-inv, inner-has, node-label
 use Rattle.protocol.proofs.Fill.{IsLabel}
 use Rattle.protocol.proofs.Judgement.{plan-facts}
 use Rattle.protocol.proofs.Bounds.{read-small, root-small}
-use Rattle.protocol.proofs.Hearing.{stored, filled, filled-length, delivered, value-same}
-use Rattle.protocol.proofs.Synchronous.{at-start, begun-shape, told, keeper-facts, standing, position, number, heard-all, ready, after-step, close-next, close-last, next-run, more-runs}
-use Rattle.agreement.proofs.Converting.{Minds, levels-sound}
+use Rattle.synchronous.proofs.Hearing.{stored, filled, filled-length, delivered, value-same}
+use Rattle.synchronous.proofs.Synchronous.{at-start, begun-shape, told, keeper-facts, standing, position, number, heard-all, ready, after-step, close-next, close-last, next-run, more-runs}
+use Rattle.agreement.proofs.RuleC.{Minds, levels-sound}
 use Rattle.agreement.proofs.Instance.{inst, mem-node, node-mem, node-level, node-size, resolve-inst, listOf}
-use Rattle.agreement.proofs.Gathering.{scan-cell, scan-sound}
+use Rattle.agreement.proofs.RuleG.{scan-cell, scan-sound}
 use Rattle.agreement.proofs.Delivery.{good, healthy, healthy-keeper, told-word, st, rec, rec-good, stored-cells, scanned, stored-healthy, scanned-other}
 
 module _ (s : Setting) (a : Adversary) (sound : Sound s) where

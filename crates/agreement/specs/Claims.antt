@@ -1,4 +1,4 @@
--- What is claimed of the synchronous session, for every adversary.
+-- What is claimed of the synchronous session, for every adversary: demand 3 where all boards go in step.
 use Prim.Native.Nat.{ℕ, _+_, _-_, _*_, _≤_}
 use mathlib.Core.Path.{_≡_}
 use mathlib.Core.Logic.{_≢_}
@@ -6,7 +6,8 @@ use mathlib.Core.Bool.{true, false}
 use lib.ListN.{getD}
 use Rattle.sets.specs.Search.{count}
 use Rattle.sets.specs.Sets.{member, within}
-use Rattle.schedule.specs.Schedule.{depthOf, isCut, rounds, runs, steps, step}
+use Rattle.heights.specs.Levels.{depthOf, isCut}
+use Rattle.schedule.specs.Schedule.{rounds, runs, steps, step}
 use Rattle.tree.specs.Cells.{blank}
 use Rattle.protocol.specs.Listing.{asSet}
 use Rattle.protocol.specs.Rounds.{Board}

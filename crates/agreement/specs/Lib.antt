@@ -1,4 +1,3 @@
 pub mod Lists
 pub mod Claims
 pub mod Printed
-pub mod Example

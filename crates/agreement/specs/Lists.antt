@@ -9,7 +9,8 @@ use lib.ListN.{getD, take}
 use Rattle.sets.specs.Search.{any, count}
 use Rattle.sets.specs.Sets.{member, within}
 use Rattle.refusals.specs.Outcome.{Outcome, taken}
-use Rattle.schedule.specs.Schedule.{depthOf, isCut, rounds, steps}
+use Rattle.heights.specs.Levels.{depthOf, isCut}
+use Rattle.schedule.specs.Schedule.{rounds, steps}
 use Rattle.tree.specs.Cells.{blank}
 use Rattle.protocol.specs.Listing.{asSet}
 use Rattle.protocol.specs.Nodes.{due}

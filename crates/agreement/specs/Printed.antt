@@ -1,4 +1,4 @@
--- What is claimed of the text that a played sheet prints.
+-- What is claimed of the text that a played sheet prints: demand 3, read off the lines.
 use Prim.Native.Nat.{ℕ, zero, suc, _<_}
 use mathlib.Core.Path.{_≡_}
 use mathlib.Core.Bool.{true, false, cond}

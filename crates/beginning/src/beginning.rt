@@ -1,8 +1,8 @@
 // Beginning a board.
-use crate::cells::clear;
+use clearing::cells::clear;
 use codec::value::Value;
+use judging::judging::judge_board;
 use judging::judging::judge_cells;
-use judging::judging::judge_number;
 use plan::plan::Plan;
 use protocol::answers::Begun;
 use protocol::records::Record;
@@ -12,6 +12,7 @@ use schedule::rounds::Round;
 use schedule::rounds::Run;
 ghost use mathlib.Core.Path.{_≡_};
 ghost use Rattle.refusals.specs.Outcome.{verdict};
+ghost use Rattle.protocol.specs.Rounds.{boardWith};
 ghost use Rattle.protocol.specs.Calls.{freshRecord, voidRecord, judgeBeginning, beginning};
 
 // The record of a board that begins.
@@ -26,7 +27,7 @@ fn fresh(plan: Plan, board: u8) -> Record
         run: run,
         round: round,
         detected: 0,
-        taken: 0,
+        marks: 0,
         decided: false,
         decision: 0,
     }
@@ -45,7 +46,7 @@ pub fn void() -> Record
         run: run,
         round: round,
         detected: 0,
-        taken: 0,
+        marks: 0,
         decided: false,
         decision: 0,
     }
@@ -56,14 +57,14 @@ fn judge_begin(plan: Plan, board: u8, cells: &[Value]) -> Verdict
     ensures { λ v. ⌜ verdict v ≡ judgeBeginning plan board (now (cells .entry)) ⌝ }
 {
     let plan_judged = plan.judge();
-    let number_judged = judge_number(plan, board);
+    let board_judged = judge_board(plan, board);
     let cells_judged = judge_cells(plan, cells);
-    and_then(plan_judged, and_then(number_judged, cells_judged))
+    and_then(plan_judged, and_then(board_judged, cells_judged))
 }
 
 // Beginning a board.
 pub fn begin(plan: Plan, board: u8, cells: &mut [Value]) -> Begun
-    ensures { λ r. ⌜ (verdict (r .answer) ≡ beginning plan board (now (cells .entry)) .answer) × (r .rec ≡ beginning plan board (now (cells .entry)) .board .rec) × (now (cells .exit) ≡ beginning plan board (now (cells .entry)) .board .cells) ⌝ }
+    ensures { λ r. ⌜ record { answer = verdict (r .answer); board = boardWith (r .rec) (now (cells .exit)) } ≡ beginning plan board (now (cells .entry)) ⌝ }
 {
     match judge_begin(plan, board, cells) {
         Verdict::Refused(why) => {

@@ -1,4 +1,2 @@
-// Beginning a board, and the dealer's frame.
+// Beginning a board.
 pub mod beginning;
-pub mod cells;
-pub mod dealing;

@@ -1,27 +1,24 @@
 // Plays the sheet on standard input; prints the lines of the boards outside F, or the refusal.
-mod input;
-
 use codec::value::Value;
-use input::read_sheet;
+use input::input::read_sheet;
 use libc::STDERR_FILENO;
 use libc::STDOUT_FILENO;
 use plan::plan::Plan;
-use printer::printing::report;
+use playing::playing::play;
 use protocol::limits::CELLS;
 use protocol::limits::OUTPUT;
 use protocol::limits::SHEET;
-use sheet::playing::play;
-ghost use mathlib.Core.Path.{_≡_};
+use reports::reporting::report;
 ghost use mathlib.Core.Bool.{cond};
 ghost use mathlib.Core.List.{[]};
-ghost use Prim.Native.Nat.{_≤_};
 ghost use lib.Dec.{ltb};
-ghost use lib.ListN.{length, take};
+ghost use lib.ListN.{length};
 ghost use Rattle.protocol.specs.Playing.{benchPrints};
+ghost use Rattle.bench.specs.Printing.{Prints};
 
 // What is printed for a sheet: how many bytes of the output. Nothing if a refusal does not fit.
 fn print_sheet(text: &[u8], cells: &mut [Value], out: &mut [u8]) -> usize
-    ensures { λ r. ⌜ (r ≤ length (now (out .exit))) × (take r (now (out .exit)) ≡ cond (ltb (length (now (out .entry))) 9) [] (benchPrints (now (text .entry)) (now (cells .entry)) (now (out .entry)))) ⌝ }
+    ensures { λ r. ⌜ Prints r (now (out .exit)) (cond (ltb (length (now (out .entry))) 9) [] (benchPrints (now (text .entry)) (now (cells .entry)) (now (out .entry)))) ⌝ }
 {
     let answer = play(text, cells, out);
     report(answer, out)

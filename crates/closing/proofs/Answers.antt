@@ -9,16 +9,15 @@ use Rattle.schedule.specs.Schedule.{rounds}
 use Rattle.refusals.specs.Outcome.{Outcome, taken, andThen}
 use Rattle.protocol.specs.Rounds.{Board, gather, nextRound, convert, close}
 use Rattle.protocol.specs.Calls.{isTaken, judgeOpen, closedValues, closing}
-use Rattle.judging.proofs.Judged.{Leaves, leaves}
 
 module _ (b : Board) where
-  pub close-refused : (o : Outcome) → o ≡ judgeOpen b → o .number ≢ 0 → Leaves (closing b) o (b .rec) (b .cells)
+  pub close-refused : (o : Outcome) → o ≡ judgeOpen b → o .number ≢ 0 → record { answer = o; board = b } ≡ closing b
   unfolding closing isTaken andThen
-  close-refused o e ne = leaves (closing b) o b (rw (sym e, ne-eqb (o .number) 0 ne) refl)
+  close-refused o e ne = rw (sym e, ne-eqb (o .number) 0 ne) refl
 
-  pub close-taken : taken [] ≡ judgeOpen b → Leaves (closing b) (taken (closedValues (close b .rec))) (close b .rec) (close b .cells)
+  pub close-taken : taken [] ≡ judgeOpen b → record { answer = taken (closedValues (close b .rec)); board = close b } ≡ closing b
   unfolding closing isTaken andThen
-  close-taken e = leaves (closing b) (taken (closedValues (close b .rec))) (close b) (rw (sym e) refl)
+  close-taken e = rw (sym e) refl
 
   -- A round before the last, and the last round.
   pub close-next : b .rec .round .0 < rounds (b .rec .plan) .0 → close b ≡ nextRound b (gather b)

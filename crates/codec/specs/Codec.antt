@@ -19,6 +19,6 @@ decode f = f
 unfoldable pub numberAt : List ℕ → ℕ → ℕ
 numberAt bytes i = getD bytes i 0
 
--- The bytes with v as value number i.
+-- The bytes with v as value number i. A middle layer: one step of `encode`.
 unfoldable pub written : ℕ → ℕ → List ℕ → List ℕ
 written i v out = take (width * i) out ++ (encode (v ∷ []) ++ drop (width * suc i) out)

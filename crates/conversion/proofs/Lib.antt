@@ -1,2 +1,1 @@
 mod RuleC
-mod Level

@@ -30,7 +30,7 @@ use Rattle.voting.proofs.Laws.{explained-table}
 use Rattle.resolving.specs.Settled.{settledAll}
 use Rattle.resolving.specs.Contracts.{Convertible, Roots}
 use Rattle.conversion.specs.Contracts.{Converts}
-use Rattle.conversion.specs.Reading.{standing, passesBy, detectBy, levelsBy}
+use Rattle.rule_c.specs.Reading.{standing, passesBy, detectBy, levelsBy}
 use Rattle.resolving.proofs.Cells.{root-labelled, all-length}
 use Rattle.resolving.proofs.Under.{Under, here, down, under-trans}
 use Rattle.resolving.proofs.Settled.{settled-done}

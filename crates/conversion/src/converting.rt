@@ -1,8 +1,8 @@
 // Closing round R converts: every node is resolved, and rule C runs over what the nodes resolved to.
-use crate::rule_c::detect_levels;
 use codec::value::Value;
 use plan::plan::Plan;
 use resolving::resolving::resolve_root;
+use rule_c::rule_c::detect_levels;
 use schedule::rounds::Round;
 use schedule::rounds::Run;
 use schedule::rounds::rounds;

@@ -15,12 +15,16 @@ use Rattle.sets.specs.Sets.{member, union, insert, within, boards, setOf, size}
 use Rattle.sets.specs.Only.{only, same}
 use Rattle.sets.specs.Structure.{holder, isSome, tolerated}
 use Rattle.sets.proofs.Tests.{clash, and-l}
-use Rattle.admission.specs.Cover.{strays, covers, thirdPlace, secondPlace, firstPlace, covered}
+use Rattle.admission.specs.Calls.{strays}
+use Rattle.covering.specs.Cover.{covers, thirdPlace, secondPlace, firstPlace, covered}
 use Rattle.plan.specs.Listed.{listed}
-use Rattle.schedule.specs.Schedule.{largest, height, isCut, rounds, runs, firstRound, hasRound, ceilDiv}
-use Rattle.admission.specs.Calls.{covering, admitting}
+use Rattle.heights.specs.Levels.{largest, height, isCut}
+use Rattle.schedule.specs.Schedule.{rounds, runs, firstRound, hasRound, ceilDiv}
+use Rattle.covering.specs.Cover.{covering}
+use Rattle.admission.specs.Calls.{admitting}
 use Rattle.refusals.specs.Outcome.{andThen}
-use Rattle.plan.specs.Calls.{isDepth, judgeSettings, planning, planOn, judged}
+use Rattle.settings.specs.Planning.{isDepth, judgeSettings, planning}
+use Rattle.plan.specs.Calls.{planOn, judged}
 use Rattle.tree.specs.Labels.{occurs, mask, last, childrenFrom, children, childrenOf}
 use Rattle.tree.specs.Places.{levelSize, levelStart, cellCount, ordinal, rank, place}
 use Rattle.tree.specs.Cells.{blank, cellAt, store}

@@ -18,7 +18,7 @@ cutSetting = record {
   buffer = λ i. replicate (cond (eqb i 2) 329 326) 7;
 }
 
--- What the boards of F hand in differs from board to board, and some of it is missing. Three frames are handed in that are turned down, as
+-- What the boards of F hand in differs from board to board, and some of it is missing. Two frames are handed in that are turned down, as
 -- is a writing into no output and the reading of a decision. The last frame comes under the number of board 2, which did not write it; its
 -- receiver never closes that round, so the list is fair.
 unfoldable pub cutCalls : List Call

@@ -1,1 +1,1 @@
-pub mod Visits
+pub mod Scans

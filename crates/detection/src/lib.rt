@@ -1,2 +1,2 @@
-// Rule G, by which a board detects faulty boards in a round.
-pub mod rule_g;
+// Rule G over the nodes of a level.
+pub mod detecting;

@@ -20,7 +20,7 @@ use Rattle.protocol.specs.Playing.{findFrame}
 use Rattle.hex.specs.Bytes.{byteOf, byteAt, bytesFrom}
 use Rattle.hex.proofs.Bytes.{bytes-more, byte-below, bytes-length, bytes-take}
 use Rattle.text.proofs.LineEnds.{lines-none, lines-at}
-use Rattle.finding.specs.Frames.{lineFrame, framesOf, framesFrom, keyOf, frameKey, rising, Rising, skipFrames, readLength, readValues}
+use Rattle.finding.specs.Frames.{lineFrame, framesOf, framesFrom, keyOf, frameKey, rising, Rising, skipFrames, Read, readLength, readValues, readInto}
 use Rattle.finding.specs.Places.{lineStop, lineAt, frameAt}
 use Rattle.finding.proofs.ByKey.{skip-low, rising-skipped, find-none, find-skipped}
 
@@ -156,9 +156,9 @@ module _ (digits buffer : List ℕ) where
       omega (arith, a, bytes-length digits 0 i, length-drop i buffer)
 
   -- All that the buffer takes.
-  pub decoded-all : decoded (min (length digits / 2) (length buffer)) ≡ readValues (some (bytesFrom digits 0 (length digits / 2))) buffer
+  decoded-whole : decoded (min (length digits / 2) (length buffer)) ≡ readValues (some (bytesFrom digits 0 (length digits / 2))) buffer
   unfolding readValues
-  decoded-all =
+  decoded-whole =
       let n = length digits / 2 in
       let r = length buffer in
       let size = bytes-length digits 0 n in
@@ -171,28 +171,32 @@ module _ (digits buffer : List ℕ) where
       ap decoded m
       ∙ ap₂ _++_ (sym (bytes-take digits r 0 n l)) (drop-of-length-le buffer {i = r} (omega arith) ∙ sym (drop-of-length-le buffer {i = length (bytesFrom digits 0 n)} (omega arith))))
 
+  pub decoded-all : (r : ℕ) → r ≡ min (length digits / 2) (length buffer)
+      → record { count = some r; buffer = decoded r } ≡ readInto (some (bytesFrom digits 0 (length digits / 2))) buffer
+  unfolding readLength
+  decoded-all r e =
+      ap₂ (λ k b. record { count = some k; buffer = b })
+      (e ∙ ap (λ n. min n (length buffer)) (sym (bytes-length digits 0 (length digits / 2)))) (ap decoded e ∙ decoded-whole)
+
 -- What is read of the frame at a place.
 module _ (v : Option (List ℕ)) (text buffer : List ℕ) (at : ℕ) (here : frameAt text at ≡ v) where
-  pub read-missing : length text ≤ at → (none ≡ readLength v (length buffer)) × (buffer ≡ readValues v buffer)
+  pub read-missing : length text ≤ at → record { count = none; buffer = buffer } ≡ readInto v buffer
   unfolding frameAt readLength readValues
   read-missing l =
       let x : none ≡ v = rw (le-ltb at (length text) l) at here in
-      rw (← x) (refl, refl)
+      rw (← x) refl
 
-  -- With what the code has in hand: the line's end e, the digits, how many values were read, and the buffer at the end.
-  pub read-found : at < length text → (e r : ℕ) (digits last : List ℕ) → e ≡ lineStop text at → digits ≡ drop 8 (take (e - at) (drop at text))
-      → r ≡ min (length digits / 2) (length buffer) → last ≡ readValues (some (bytesFrom digits 0 (length digits / 2))) buffer
-      → (some r ≡ readLength v (length buffer)) × (last ≡ readValues v buffer)
-  unfolding frameAt lineAt readLength
-  read-found l e r digits last ends ed er el =
+  -- With what the code has in hand: the line's end e, the digits, and what was read of them.
+  pub read-found : at < length text → (e : ℕ) (digits : List ℕ) (read : Read) → e ≡ lineStop text at → digits ≡ drop 8 (take (e - at) (drop at text))
+      → read ≡ readInto (some (bytesFrom digits 0 (length digits / 2))) buffer → read ≡ readInto v buffer
+  unfolding frameAt lineAt
+  read-found l e digits read ends ed er =
       let line = lineAt text at in
       let vs = bytesFrom digits 0 (length digits / 2) in
       let same : digits ≡ drop 8 line = ed ∙ ap (λ m. drop 8 (take (m - at) (drop at text))) ends in
       let is : some (lineFrame line .values) ≡ v = rw (lt-ltb at (length text) l) at here in
-      let values : some vs ≡ v = ap (λ d. some (bytesFrom d 0 (length d / 2))) same ∙ ap some (values-later line) ∙ is in (
-        ap some (er ∙ ap (λ n. min n (length buffer)) (sym (bytes-length digits 0 (length digits / 2)))) ∙ ap (λ o. readLength o (length buffer)) values,
-        el ∙ ap (λ o. readValues o buffer) values,
-      )
+      let values : some vs ≡ v = ap (λ d. some (bytesFrom d 0 (length d / 2))) same ∙ ap some (values-later line) ∙ is in
+      er ∙ ap (λ o. readInto o buffer) values
 
 -- For callers: what was read is what the buffer takes of the frame's values.
 pub read-missed : (v : Option (List ℕ)) (room : ℕ) → readLength v room ≡ none → v ≡ none

@@ -59,7 +59,11 @@ unfoldable pub foundSays : Found → Option ℕ
 foundSays Missing = none
 foundSays (Values k) = some k
 
--- As many values as the buffer takes.
+-- What is read of a frame, as many values as the buffer takes: their number, none if there is no frame, and the buffer.
+pub record Read : Type 0 where
+  pub count : Option ℕ
+  pub buffer : List ℕ
+
 unfoldable pub readLength : Option (List ℕ) → ℕ → Option ℕ
 readLength none room = none
 readLength (some vs) room = some (min (length vs) room)
@@ -67,3 +71,6 @@ readLength (some vs) room = some (min (length vs) room)
 unfoldable pub readValues : Option (List ℕ) → List ℕ → List ℕ
 readValues none buffer = buffer
 readValues (some vs) buffer = take (length buffer) vs ++ drop (length vs) buffer
+
+abbrev pub readInto : Option (List ℕ) → List ℕ → Read
+readInto v buffer = record { count = readLength v (length buffer); buffer = readValues v buffer }

@@ -13,7 +13,7 @@ ghost use lib.ListN.{length};
 ghost use Rattle.protocol.specs.Playing.{findFrame};
 ghost use Rattle.hex.specs.Bytes.{bytesFrom};
 ghost use Rattle.finding.specs.Places.{frameAt};
-ghost use Rattle.finding.specs.Frames.{framesFrom, keyOf, Rising, skipFrames, foundSays, readLength, readValues};
+ghost use Rattle.finding.specs.Frames.{framesFrom, keyOf, Rising, skipFrames, foundSays, readInto};
 
 // A frame of the sheet: none, or how many of its values were read.
 pub enum Found {
@@ -72,7 +72,7 @@ fn smaller(a: usize, b: usize) -> usize
 
 // As many values as the buffer takes.
 fn decode(digits: &[u8], values: &mut [u8]) -> usize
-    ensures { λ r. ⌜ (r ≡ min (length (now (digits .entry)) / 2) (length (now (values .entry)))) × (now (values .exit) ≡ readValues (some (bytesFrom (now (digits .entry)) 0 (length (now (digits .entry)) / 2))) (now (values .entry))) ⌝ }
+    ensures { λ r. ⌜ record { count = some r; buffer = now (values .exit) } ≡ readInto (some (bytesFrom (now (digits .entry)) 0 (length (now (digits .entry)) / 2))) (now (values .entry)) ⌝ }
 {
     let count = smaller(digits.len() / 2, values.len());
     let mut i: usize = 0;
@@ -94,7 +94,7 @@ pub fn read_frame(
     values: &mut [u8],
 ) -> Found
     requires { ⌜ Rising (now text) from ⌝ }
-    ensures { λ r. ⌜ (foundSays r ≡ readLength (findFrame run round sender receiver (framesFrom (now (text .entry)) from)) (length (now (values .entry)))) × (now (values .exit) ≡ readValues (findFrame run round sender receiver (framesFrom (now (text .entry)) from)) (now (values .entry))) ⌝ }
+    ensures { λ r. ⌜ record { count = foundSays r; buffer = now (values .exit) } ≡ readInto (findFrame run round sender receiver (framesFrom (now (text .entry)) from)) (now (values .entry)) ⌝ }
 {
     let at = find_line(text, from, run, round, sender, receiver);
     if text.len() <= at {

@@ -1,4 +1,4 @@
--- What a closing over a lent record leaves.
+-- What a closing over a lent record leaves: what `closing` of protocol/Calls says, with the record written where it is lent.
 use Prim.Native.Nat.{ℕ}
 use mathlib.Core.List.{List}
 use Rattle.refusals.specs.Outcome.{Outcome}

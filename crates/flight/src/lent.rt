@@ -9,7 +9,7 @@ ghost use Rattle.flight.specs.Lent.{lentClosing};
 
 // Closing a round over a lent record: that same record is updated.
 pub fn close_lent(r: &mut Record, cells: &mut [Value]) -> Closing
-    ensures { λ x. ⌜ (closingSays x ≡ lentClosing (now (r .entry)) (now (cells .entry)) .answer) × (now (r .exit) ≡ lentClosing (now (r .entry)) (now (cells .entry)) .rec) × (now (cells .exit) ≡ lentClosing (now (r .entry)) (now (cells .entry)) .cells) ⌝ }
+    ensures { λ x. ⌜ record { answer = closingSays x; rec = now (r .exit); cells = now (cells .exit) } ≡ lentClosing (now (r .entry)) (now (cells .entry)) ⌝ }
 {
     let out = close(*r, cells);
     *r = out.rec;

@@ -4,12 +4,13 @@ use frames::writing::is_due;
 use hex::reading::byte_at;
 use hex::reading::is_text;
 use plan::plan::Plan;
+use positions::positions::has_round;
 use refusals::refusal::Refusal;
 use refusals::refusal::Verdict;
 use schedule::rounds::Round;
 use schedule::rounds::Run;
-use schedule::rounds::has_round;
 use sets::boards::member;
+use tables::listed::table_of;
 ghost use mathlib.Core.Path.{_≡_};
 ghost use Rattle.refusals.specs.Outcome.{verdict};
 ghost use Rattle.plan.specs.Calls.{judged};
@@ -31,7 +32,7 @@ fn is_expected(plan: Plan, run: Run, round: Round, sender: u8, receiver: u8) -> 
     if receiver == dealer {
         return false;
     }
-    let holders = plan.holders();
+    let holders = table_of(plan);
     is_due(plan, &holders, sender, receiver, round)
 }
 

@@ -22,9 +22,9 @@ use Rattle.tree.proofs.Ranks.{rank-lt, rank-get}
 use Rattle.protocol.specs.Nodes.{inner, carried, sent}
 use Rattle.protocol.proofs.Nodes.{filter-inv, inner-inv, node-label, internal-tol}
 use Rattle.protocol.proofs.Few.{carried-few}
-use Rattle.walk.specs.Walk.{code}
+use Rattle.internal.specs.Numbers.{code}
 use Rattle.walk.specs.Listing.{Walkable, Lists}
-use Rattle.walk.proofs.Codes.{Coded, label-coded}
+use Rattle.internal.proofs.Codes.{Coded, label-coded}
 use Rattle.walk.proofs.Carried.{size-most}
 use Rattle.frames.proofs.Places.{at-sum, child-sum, child-lt}
 use Rattle.frames.specs.Nodes.{Standing, nodeAt, IsNode, labelsOf, Nodes, Without}

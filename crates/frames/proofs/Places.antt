@@ -6,7 +6,7 @@ use mathlib.Core.Bool.{false}
 use mathlib.Core.List.{List, _∷_}
 use native.Mathlib.Omega.{arith}
 use lib.ListN.{length, getD}
-use Rattle.sets.proofs.Held.{getD-any}
+use Rattle.holders.proofs.Held.{getD-any}
 use Rattle.plan.specs.declared.plan.Plan.{Plan}
 use Rattle.plan.specs.Values.{value}
 use Rattle.tree.specs.Labels.{Label, occurs, mask, labelAt}

@@ -6,11 +6,11 @@ use mathlib.Core.Logic.{_≢_}
 use mathlib.Core.List.{List}
 use native.Mathlib.Omega.{arith}
 use lib.ListN.{length, length-take}
-use Rattle.sets.specs.Holders.{holderTable}
+use Rattle.holders.specs.Holders.{holderTable}
 use Rattle.plan.specs.declared.plan.Plan.{Plan}
 use Rattle.plan.specs.Listed.{listed}
 use Rattle.plan.specs.Calls.{judged}
-use Rattle.plan.specs.Tabled.{Tabled}
+use Rattle.tables.specs.Tabled.{Tabled}
 use Rattle.schedule.specs.declared.rounds.Round.{Round}
 use Rattle.schedule.specs.Schedule.{rounds}
 use Rattle.tree.specs.Places.{cellCount}

@@ -1,12 +1,13 @@
--- What the engine's functions ask of their inputs, and lists of nodes as numbers. A middle layer.
-use Prim.Native.Nat.{ℕ, _/_, _%_, _≤_, _<_}
+-- What the engine's functions ask of their inputs, and lists of nodes as numbers. A middle layer: `inner` and
+-- `carried` of protocol/Nodes are the definitions.
+use Prim.Native.Nat.{ℕ, _*_, _/_, _%_, _≤_, _<_}
 use mathlib.Core.Path.{_≡_}
 use mathlib.Core.Logic.{_≢_}
 use mathlib.Core.Bool.{false, cond}
 use mathlib.Core.List.{List, map}
 use lib.Dec.{ltb}
 use lib.ListN.{length, getD}
-use Rattle.sets.specs.Holders.{holderTable}
+use Rattle.holders.specs.Holders.{holderTable}
 use Rattle.plan.specs.declared.plan.Plan.{Plan}
 use Rattle.plan.specs.Listed.{listed}
 use Rattle.plan.specs.Values.{default, value}
@@ -14,7 +15,8 @@ use Rattle.plan.specs.Calls.{judged}
 use Rattle.schedule.specs.declared.rounds.Round.{Round}
 use Rattle.schedule.specs.Schedule.{rounds}
 use Rattle.tree.specs.Labels.{Label, occurs, mask, last, labelAt}
-use Rattle.tree.specs.Places.{levelSize}
+use Rattle.codec.specs.Codec.{width}
+use Rattle.tree.specs.Places.{levelSize, cellCount}
 
 -- A board that keeps cells, in a round of an accepted plan, with the plan's table of holders.
 pub record Standing (p : Plan) (holders : List ℕ) (board : ℕ) (k : Round) : Type 0 where
@@ -33,6 +35,19 @@ pub record Standing (p : Plan) (holders : List ℕ) (board : ℕ) (k : Round) : 
 -- The same, with the plan's own table of holders.
 abbrev pub Stands : Plan → ℕ → Round → Type 0
 Stands p i k = Standing p (holderTable (listed p)) i k
+
+-- A round after the first, with cells enough.
+pub record Later (p : Plan) (holders : List ℕ) (board : ℕ) (k : Round) (cells : List ℕ) : Type 0 where
+  pub standing : Standing p holders board k
+  pub later : 2 ≤ k .0
+  pub enough : cellCount (p .n) ≤ length cells
+
+-- The same, for what board q sends.
+pub record LaterFrom (p : Plan) (holders : List ℕ) (board q : ℕ) (k : Round) (cells : List ℕ) : Type 0 where
+  pub standing : Standing p holders board k
+  pub later : 2 ≤ k .0
+  pub sender : q < p .n
+  pub enough : cellCount (p .n) ≤ length cells
 
 -- The label that a node's number stands for: crate walk has a node's number in its level, its last board and its boards in one.
 abbrev pub nodeAt : Plan → ℕ → ℕ → Label
@@ -59,6 +74,19 @@ pub record Nodes (p : Plan) (level : ℕ) (nodes : List ℕ) : Type 0 where
 -- Board q is on none of them.
 abbrev pub Without : Plan → ℕ → ℕ → List ℕ → Type 0
 Without p level q nodes = (j : ℕ) → j < length nodes → occurs q (nodeAt p level (getD nodes j 0)) ≡ false
+
+-- Nodes whose children by board q have cells.
+pub record Storable (p : Plan) (level q : ℕ) (nodes cells : List ℕ) : Type 0 where
+  pub are-nodes : Nodes p level nodes
+  pub without : Without p level q nodes
+  pub sender : q < p .n
+  pub enough : cellCount (p .n) ≤ length cells
+
+-- Nodes with cells, and room for their values.
+pub record Writable (p : Plan) (level : ℕ) (nodes cells out : List ℕ) : Type 0 where
+  pub are-nodes : Nodes p level nodes
+  pub enough : cellCount (p .n) ≤ length cells
+  pub room : width * length nodes ≤ length out
 
 -- Value number i of a frame; the default where it has none.
 unfoldable pub entry : Plan → List ℕ → ℕ → ℕ

@@ -1,3 +1,2 @@
-// The frames of a round: which are due, writing one, storing one.
-pub mod storing;
+// The frames of a round: which are due, and writing one.
 pub mod writing;

@@ -1,20 +1,19 @@
 // Which frames are due, and writing one.
 use codec::value::Value;
 use codec::value::put_value;
+use internal::node::index_of;
+use levels::levels::level_start;
 use plan::plan::Plan;
 use protocol::limits::VALUES;
 use schedule::rounds::Round;
-use tree::levels::level_start;
-use walk::node::index_of;
 use walk::nodes::carried_nodes;
 ghost use mathlib.Core.Path.{_≡_};
 ghost use mathlib.Core.List.{map, _++_};
-ghost use Prim.Native.Nat.{_*_, _≤_};
+ghost use Prim.Native.Nat.{_*_};
 ghost use lib.ListN.{length, drop};
 ghost use Rattle.codec.specs.Codec.{width, encode};
-ghost use Rattle.tree.specs.Places.{cellCount};
 ghost use Rattle.protocol.specs.Nodes.{read, due};
-ghost use Rattle.frames.specs.Nodes.{Standing, Nodes, labelsOf};
+ghost use Rattle.frames.specs.Nodes.{Standing, labelsOf, Writable};
 
 // Is a frame due from board q to a board that keeps cells?
 pub fn is_due(plan: Plan, holders: &[u8], q: u8, board: u8, round: Round) -> bool
@@ -40,7 +39,7 @@ pub fn is_due(plan: Plan, holders: &[u8], q: u8, board: u8, round: Round) -> boo
 
 // The values of the nodes' cells are written.
 pub fn write_at(plan: Plan, level: u8, nodes: &[u32], cells: &[Value], out: &mut [u8])
-    requires { ⌜ Nodes plan level (now nodes) × (cellCount (plan .n) ≤ length (now cells)) × (width * length (now nodes) ≤ length (now out)) ⌝ }
+    requires { ⌜ Writable plan level (now nodes) (now cells) (now out) ⌝ }
     ensures { λ _. ⌜ now (out .exit) ≡ encode (map (read plan (now (cells .entry))) (labelsOf plan level (now (nodes .entry)))) ++ drop (width * length (now (nodes .entry))) (now (out .entry)) ⌝ }
 {
     let start = level_start(plan.n, level);

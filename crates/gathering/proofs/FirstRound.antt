@@ -28,25 +28,25 @@ turned : {A : Type 0} (b : Bool) (x y : A) → cond (not b) x y ≡ cond b y x
 turned true x y = refl
 turned false x y = refl
 
-module _ {p : Plan} {holders : List ℕ} {i : ℕ} {k : Round} (s : Standing p holders i k) (one : k .0 ≡ 1) (taken : ℕ) (cells : List ℕ) where
+module _ {p : Plan} {holders : List ℕ} {i : ℕ} {k : Round} (s : Standing p holders i k) (one : k .0 ≡ 1) (marks : ℕ) (cells : List ℕ) where
   abbrev rooted : List ℕ
-  rooted = cond (member (p .dealer) taken) cells (set cells 0 (default p))
+  rooted = cond (member (p .dealer) marks) cells (set cells 0 (default p))
 
   -- Of the boards below j only the dealer's frame is due.
-  below : (j : ℕ) → j ≤ p .dealer → fillMissing p i k taken j cells ≡ cells
+  below : (j : ℕ) → j ≤ p .dealer → fillMissing p i k marks j cells ≡ cells
   unfolding fillMissing
   below zero h = refl
   below (suc q) h =
       rw (due-word s q (omega (arith, s .dealer-below)) one ∙ ne-eqb q (p .dealer) (omega arith)) (below q (omega arith))
 
-  above : (j : ℕ) → p .dealer < j → j ≤ p .n → fillMissing p i k taken j cells ≡ rooted
+  above : (j : ℕ) → p .dealer < j → j ≤ p .n → fillMissing p i k marks j cells ≡ rooted
   unfolding fillMissing entry
   above zero h l = absurd (omega arith)
   above (suc q) h l =
       cases (eqb q (p .dealer))
       (λ e. let z : q ≡ p .dealer = eqb-true q (p .dealer) e in
-      rw (due-word s q (omega arith) one ∙ e, sent-word s q (omega arith) one z, below q (omega arith), fill-word p q [] cells, ap (λ x. member x taken) z)
-      (turned (member (p .dealer) taken) (set cells 0 (default p)) cells))
+      rw (due-word s q (omega arith) one ∙ e, sent-word s q (omega arith) one z, below q (omega arith), fill-word p q [] cells, ap (λ x. member x marks) z)
+      (turned (member (p .dealer) marks) (set cells 0 (default p)) cells))
       (λ e. let z : q ≢ p .dealer = eqb-false q (p .dealer) e in
       rw (due-word s q (omega arith) one ∙ e) (above q (omega arith) (omega arith)))
 
@@ -55,12 +55,12 @@ module _ {p : Plan} {holders : List ℕ} {i : ℕ} {k : Round} (s : Standing p h
   own-none = rw (eq-eqb (k .0) 1 one, ne-eqb i (p .dealer) (s .other))
 
   -- Rule G does not run in round 1.
-  gathered-word : (run : Run) (detected : ℕ) → gathered p i run k taken detected cells ≡ record { detected = detected; cells = rooted }
+  gathered-word : (run : Run) (detected : ℕ) → gathered p i run k marks detected cells ≡ record { detected = detected; cells = rooted }
   unfolding gathered inner nodes filter detectAllG copyOwn fill
   gathered-word run detected =
       rw ((let z : k .0 - 1 ≡ 0 = omega arith in z), own-none, above (p .n) (s .dealer-below) (omega arith)) refl
 
-  pub gathers-word : (run : Run) (detected : ℕ) (after : List ℕ) → after ≡ rooted → Gathers p i run k taken detected detected cells after
+  pub gathers-word : (run : Run) (detected : ℕ) (after : List ℕ) → after ≡ rooted → Gathers p i run k marks detected detected cells after
   gathers-word run detected after e = record {
     list-is = sym (ap (λ (x : Scan). x .detected) (gathered-word run detected));
     cells-are = e ∙ sym (ap (λ (x : Scan). x .cells) (gathered-word run detected));

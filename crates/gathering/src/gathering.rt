@@ -1,7 +1,7 @@
 // What closing a round gathers: what was not handed in, the board's own cells, and the list by rule G.
 use codec::value::Value;
-use detection::rule_g::detect_cells;
-use filling::filling::copy_own;
+use copying::copying::copy_own;
+use detection::detecting::detect_cells;
 use filling::filling::fill_missing;
 use plan::plan::Plan;
 use schedule::rounds::Round;
@@ -14,16 +14,16 @@ ghost use lib.ListN.{length, set};
 ghost use Rattle.sets.specs.Sets.{member};
 ghost use Rattle.plan.specs.Values.{default};
 ghost use Rattle.tree.specs.Places.{cellCount};
-ghost use Rattle.frames.specs.Nodes.{Standing};
+ghost use Rattle.frames.specs.Nodes.{Standing, Later};
 ghost use Rattle.gathering.specs.Gathered.{Gathers};
 
 // Round 1: the default at the root, unless the dealer's frame was taken.
-fn gather_word(plan: Plan, taken: u8, cells: &mut [Value])
+fn gather_word(plan: Plan, marks: u8, cells: &mut [Value])
     requires { ⌜ (plan .dealer < plan .n) × (cellCount (plan .n) ≤ length (now cells)) ⌝ }
-    ensures { λ _. ⌜ now (cells .exit) ≡ cond (member (plan .dealer) taken) (now (cells .entry)) (set (now (cells .entry)) 0 (default plan)) ⌝ }
+    ensures { λ _. ⌜ now (cells .exit) ≡ cond (member (plan .dealer) marks) (now (cells .entry)) (set (now (cells .entry)) 0 (default plan)) ⌝ }
 {
     let dealer = plan.dealer;
-    if member(taken, dealer) {
+    if member(marks, dealer) {
         return;
     }
     cells[0] = plan.default();
@@ -36,14 +36,14 @@ fn gather_later(
     board: u8,
     run: Run,
     round: Round,
-    taken: u8,
+    marks: u8,
     list: u8,
     cells: &mut [Value],
 ) -> u8
-    requires { ⌜ Standing plan (now holders) board round × (2 ≤ round .0) × (cellCount (plan .n) ≤ length (now cells)) ⌝ }
-    ensures { λ d. ⌜ Gathers plan board run round taken list d (now (cells .entry)) (now (cells .exit)) ⌝ }
+    requires { ⌜ Later plan (now holders) board round (now cells) ⌝ }
+    ensures { λ d. ⌜ Gathers plan board run round marks list d (now (cells .entry)) (now (cells .exit)) ⌝ }
 {
-    fill_missing(plan, holders, board, round, taken, cells);
+    fill_missing(plan, holders, board, round, marks, cells);
     copy_own(plan, holders, board, round, cells);
     detect_cells(plan, holders, board, run, round, list, cells)
 }
@@ -55,17 +55,17 @@ pub fn gather_round(
     board: u8,
     run: Run,
     round: Round,
-    taken: u8,
+    marks: u8,
     list: u8,
     cells: &mut [Value],
 ) -> u8
     requires { ⌜ Standing plan (now holders) board round × (cellCount (plan .n) ≤ length (now cells)) ⌝ }
-    ensures { λ d. ⌜ Gathers plan board run round taken list d (now (cells .entry)) (now (cells .exit)) ⌝ }
+    ensures { λ d. ⌜ Gathers plan board run round marks list d (now (cells .entry)) (now (cells .exit)) ⌝ }
 {
     let k = round.0;
     if k == 1 {
-        gather_word(plan, taken, cells);
+        gather_word(plan, marks, cells);
         return list;
     }
-    gather_later(plan, holders, board, run, round, taken, list, cells)
+    gather_later(plan, holders, board, run, round, marks, list, cells)
 }

@@ -1,15 +1,13 @@
 -- The head that a line's bytes give.
 -- Assumes nothing.
-use Prim.Native.Nat.{ℕ, suc, _+_, _-_, _/_, _<_, min}
-use mathlib.Core.Path.{_≡_, refl, sym, ap, ap₂, _∙_}
+use Prim.Native.Nat.{ℕ, _+_, _-_, _/_, min}
+use mathlib.Core.Path.{_≡_, refl, sym, ap, _∙_}
 use mathlib.Core.Logic.{_≢_}
 use mathlib.Core.Bool.{true, false, not, _&&_, _||_, cond}
-use mathlib.Core.List.{List, [], _∷_, _++_}
-use native.Mathlib.Numerals.{add-one}
+use mathlib.Core.List.{List, []}
 use native.Mathlib.Omega.{arith}
 use lib.Dec.{eqb, leb, ltb}
-use lib.ListN.{length, getD, take, drop, set, replicate}
-use lib.Seq.{set-at, take-at, append-snoc}
+use lib.ListN.{length, getD, take, drop}
 use borrow.Author.Tests.{eq-eqb, ne-eqb, eqb-true, eqb-false, le-ltb}
 use Rattle.codec.specs.Codec.{numberAt}
 use Rattle.sets.specs.Sets.{within, boards}
@@ -17,36 +15,17 @@ use Rattle.sets.specs.Structure.{tolerated}
 use Rattle.sets.proofs.Tests.{cases, or-right, true-not}
 use Rattle.refusals.specs.Outcome.{Outcome, taken, refused, andThen}
 use Rattle.plan.specs.declared.plan.Plan.{Plan}
-use Rattle.plan.specs.declared.plan.Settings.{Settings}
-use Rattle.plan.specs.Calls.{planning, planned}
+use Rattle.settings.specs.declared.settings.Settings.{Settings}
+use Rattle.settings.specs.Planning.{planning}
+use Rattle.plan.specs.Calls.{planned}
 use Rattle.refusals.proofs.Outcomes.{refused-first}
 use Rattle.plan.proofs.Accepted.{accepted}
 use Rattle.protocol.specs.Sheet.{headOf, judgeHead}
 use Rattle.hex.specs.Bytes.{byteAt, bytesFrom}
-use Rattle.heads.specs.Heads.{lineSettings}
-use Rattle.hex.proofs.Bytes.{bytes-length, bytes-drop, bytes-take, bytes-more, all, all-at}
+use Rattle.fields.specs.Settings.{lineSettings}
+use Rattle.hex.proofs.Bytes.{bytes-length, bytes-drop, bytes-take, all, all-at}
 
 module _ (line : List ℕ) where
-  -- The first k sets, and 00 in the other slots.
-  abbrev pub slots : ℕ → List ℕ
-  slots k = bytesFrom line 6 k ++ replicate (255 - k) 0
-
-  pub slots-start : replicate 255 0 ≡ slots 0
-  unfolding bytesFrom
-  slots-start = refl
-
-  pub slots-more : (k : ℕ) → k < 255 → set (slots k) k (byteAt line (k + 6)) ≡ slots (k + 1)
-  slots-more k l =
-      let r : replicate {A = ℕ} (255 - k) 0 ≡ 0 ∷ replicate (255 - (k + 1)) 0 =
-      ap (λ m. replicate {A = ℕ} m 0) (let z : 255 - k ≡ suc (255 - (k + 1)) = omega arith in z) in
-      let v = byteAt line (k + 6) in
-      let more : bytesFrom line 6 (k + 1) ≡ bytesFrom line 6 k ++ (v ∷ []) =
-      ap (bytesFrom line 6) (add-one k) ∙ bytes-more line 6 k ∙ ap (λ x. bytesFrom line 6 k ++ (byteAt line x ∷ [])) (let z : 6 + k ≡ k + 6 = omega arith in z) in
-      ap (λ x. set (bytesFrom line 6 k ++ x) k v) r
-      ∙ set-at (bytesFrom line 6 k) 0 (replicate (255 - (k + 1)) 0) v k (bytes-length line 6 k)
-      ∙ sym (append-snoc (bytesFrom line 6 k) v (replicate (255 - (k + 1)) 0))
-      ∙ ap (λ x. x ++ replicate (255 - (k + 1)) 0) (sym more)
-
   -- The head's sets and its faulty boards.
   sets-are : length line / 2 ≡ byteAt line 5 + 6 + 1 → take (byteAt line 5) (drop 6 (all line)) ≡ bytesFrom line 6 (byteAt line 5)
   sets-are e =
@@ -97,11 +76,6 @@ module _ (line : List ℕ) where
       let sets′ = esets ∙ ap (bytesFrom line 6) es in
       let f′ = ef ∙ ap (λ x. byteAt line (x + 6)) es in
       rw (f′, sets′, bytes-length line 6 (byteAt line 5), en, em, ev) (sym (head-right (e ∙ ap (λ x. x + 6 + 1) es)))
-
-  -- The part of the slots that holds the sets.
-  pub slots-part : (k : ℕ) (sets : List ℕ) → sets ≡ slots k → take (k - 0) sets ≡ bytesFrom line 6 k
-  slots-part k sets e =
-      ap₂ take (let z : k - 0 ≡ k = omega arith in z) e ∙ take-at (bytesFrom line 6 k) (replicate (255 - k) 0) k (bytes-length line 6 k)
 
   -- A head that is accepted has its length.
   pub head-sized : judgeHead (all line) .number ≡ 0 → length line / 2 ≡ byteAt line 5 + 6 + 1

@@ -1,46 +1,40 @@
--- What all boards hear from each other in a round. A middle layer: what a board hears is `hears` of the protocol.
-use Prim.Native.Nat.{ℕ, zero, suc, _≤_}
+-- What a board hears from another. A middle layer: what a board hears is `hears` of the protocol.
+use Prim.Native.Nat.{ℕ, _≤_}
 use mathlib.Core.Path.{_≡_}
-use mathlib.Core.Bool.{cond}
+use mathlib.Core.Bool.{false, cond}
 use mathlib.Core.List.{List}
 use mathlib.Core.Option.{Option, some}
-use lib.ListN.{length}
+use lib.ListN.{length, take}
 use Rattle.codec.specs.Codec.{decode}
 use Rattle.sets.specs.Sets.{member}
 use Rattle.protocol.specs.declared.head.Head.{Head}
+use Rattle.protocol.specs.declared.records.Record.{Record}
 use Rattle.protocol.specs.Limits.{frameRoom}
 use Rattle.protocol.specs.Rounds.{Board}
 use Rattle.protocol.specs.Session.{handIn}
 use Rattle.protocol.specs.Sheet.{Frame}
 use Rattle.protocol.specs.Playing.{findFrame, decoded}
-use Rattle.finding.specs.Frames.{Rising}
-use Rattle.stage.specs.Stage.{Stage, Roomy, boardOn, onStage}
-use Rattle.outgoing.specs.Outgoing.{frameFrom}
-
--- At most seven boards, each one's part lies within the cells, and the frame lines from `from` on rise.
-pub record Ready (h : Head) (cells text : List ℕ) (from : ℕ) : Type 0 where
-  pub roomy : Roomy h cells
-  pub rising : Rising text from
 
 -- The length of a frame, and the buffer that it stands in.
 pub record Framed (own : ℕ) (frame : List ℕ) : Type 0 where
   pub fits : own ≤ frameRoom
   pub whole : length frame ≡ frameRoom
 
+-- What the sheet's frames have from board q for the board with record r, at its run and round.
+abbrev pub inSheet : List Frame → ℕ → Record → Option (List ℕ)
+inSheet fs q r = decoded (findFrame (r .run) (r .round) q (r .board) fs)
+
 -- What a board hears from board q: what the sheet's frames have for it if q is faulty, else the frame f.
 unfoldable pub told : Head → List Frame → ℕ → List ℕ → Board → Option (List ℕ)
 told h fs q f b =
-    let found = decoded (findFrame (b .rec .run) (b .rec .round) q (b .rec .board) fs) in
+    let found = inSheet fs q (b .rec) in
     cond (member q (h .faulty)) found (some (decode f))
 
 unfoldable pub hearFrom : Head → List Frame → ℕ → List ℕ → ℕ → Board → Board
 hearFrom h fs q f i b = handIn q (told h fs q f b) b
 
--- Every board hears board q.
-unfoldable pub hearSender : Head → List Frame → ℕ → Stage → Stage
-hearSender h fs q st = onStage h (hearFrom h fs q (frameFrom h q (boardOn (h .plan .n) st q))) (h .plan .n) st
-
--- Every board hears the boards below k.
-unfoldable pub hearSenders : Head → List Frame → ℕ → Stage → Stage
-hearSenders h fs zero st = st
-hearSenders h fs (suc k) st = hearSender h fs k (hearSenders h fs k st)
+-- Board b hears board q, whose frame is the first `own` bytes of the buffer: the board and the buffer afterwards. The
+-- frame of a board outside F stays in the buffer.
+pub record Hears (h : Head) (fs : List Frame) (q own : ℕ) (buffer : List ℕ) (b : Board) (buffer′ : List ℕ) (b′ : Board) : Type 0 where
+  pub board : b′ ≡ hearFrom h fs q (take own buffer) 0 b
+  pub frame : member q (h .faulty) ≡ false → buffer′ ≡ buffer

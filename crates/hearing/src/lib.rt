@@ -1,2 +1,2 @@
-// All boards hear all others.
-pub mod senders;
+// A board hears another: a faulty one as the sheet says, any other by its frame.
+pub mod hearing;

@@ -1,4 +1,4 @@
--- What is written is read back, and what is read is what is written.
+-- What is written is read back, and what is read is what is written: digits and bytes are one to one (01: "two digits a byte").
 use Prim.Native.Nat.{ℕ, _<_}
 use mathlib.Core.Path.{_≡_}
 use mathlib.Core.List.{List, []}

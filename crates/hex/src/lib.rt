@@ -1,3 +1,2 @@
-// Bytes as uppercase hexadecimal, two digits a byte: read and written.
+// Bytes as uppercase hexadecimal, two digits a byte: the definitions, and reading.
 pub mod reading;
-pub mod writing;

@@ -1,4 +1,4 @@
--- What the judgements of a record say, number by number, and what they leave.
+-- What the judgements of a record say, number by number.
 -- Assumes nothing.
 use Prim.Native.Nat.{ℕ, _≤_, min}
 use mathlib.Core.Path.{_≡_, sym, ap, _∙_}
@@ -16,9 +16,8 @@ use Rattle.plan.specs.Calls.{judged}
 use Rattle.refusals.proofs.Outcomes.{refused-first}
 use Rattle.tree.specs.Places.{countWithin}
 use Rattle.tree.proofs.Within.{count-within}
-use Rattle.protocol.specs.declared.records.Record.{Record}
 use Rattle.protocol.specs.Rounds.{Board}
-use Rattle.protocol.specs.Calls.{Result, judgeCells, judgeRecord, judgeDecided, judgeOpen}
+use Rattle.protocol.specs.Calls.{judgeCells, judgeRecord, judgeDecided, judgeOpen}
 use Rattle.protocol.proofs.Judgement.{plan-facts, record-facts}
 
 -- The boards below n, as a plan within its limits has them.
@@ -49,10 +48,3 @@ open-judged b =
     then-same (judgeRecord (b .rec)) _ _
     (λ e. ap (λ x. andThen x (judgeDecided (b .rec .decided)))
     (room-judged (b .rec .plan) (b .cells) (record-facts (b .rec) e .plan-good)))
-
--- The three parts of a result.
-abbrev pub Leaves : Result → Outcome → Record → List ℕ → Type 0
-Leaves x o r cells = (o ≡ x .answer) × (r ≡ x .board .rec) × (cells ≡ x .board .cells)
-
-pub leaves : (x : Result) (o : Outcome) (b : Board) → x ≡ record { answer = o; board = b } → Leaves x o (b .rec) (b .cells)
-leaves x o b e = (ap (λ (z : Result). z .answer) (sym e), ap (λ (z : Result). z .board .rec) (sym e), ap (λ (z : Result). z .board .cells) (sym e))

@@ -1,15 +1,15 @@
 // What the calls judge before they do anything.
 use codec::value::Value;
+use levels::levels::cell_count;
 use listing::listing::as_set;
 use plan::plan::Plan;
+use positions::positions::has_round;
 use protocol::records::Record;
 use refusals::refusal::Refusal;
 use refusals::refusal::Verdict;
 use refusals::refusal::and_then;
-use schedule::rounds::has_round;
 use sets::boards::all_boards;
 use sets::boards::within;
-use tree::levels::cell_count;
 ghost use mathlib.Core.Path.{_≡_};
 ghost use mathlib.Core.Bool.{_&&_, cond};
 ghost use mathlib.Core.List.{[]};
@@ -22,7 +22,7 @@ ghost use Rattle.protocol.specs.Calls.{isTaken, judgeBoard, goodMarks, goodDeci
 ghost use Rattle.protocol.specs.Rounds.{boardWith};
 
 // The board's number: 9 and 10.
-pub fn judge_number(plan: Plan, board: u8) -> Verdict
+pub fn judge_board(plan: Plan, board: u8) -> Verdict
     ensures { λ v. ⌜ verdict v ≡ judgeBoard plan board ⌝ }
 {
     let n = plan.n;
@@ -67,7 +67,7 @@ fn has_good_fields(r: Record) -> bool
     if !within(as_set(r.detected), all) {
         return false;
     }
-    if !within(r.taken, all) {
+    if !within(r.marks, all) {
         return false;
     }
     if decided {
@@ -83,7 +83,7 @@ fn is_good(r: Record) -> bool
     if !is_accepted(r.plan.judge()) {
         return false;
     }
-    if !is_accepted(judge_number(r.plan, r.board)) {
+    if !is_accepted(judge_board(r.plan, r.board)) {
         return false;
     }
     if !has_round(r.plan, r.run, r.round) {

@@ -5,9 +5,9 @@ use codec::value::Value;
 use libc::STDOUT_FILENO;
 use listing::listing::as_set;
 use plan::plan::Plan;
-use plan::plan::Settings;
 use protocol::limits::PART;
 use schedule::rounds::Round;
+use settings::settings::Settings;
 
 // Cells of many values.
 fn scatter(cells: &mut [Value]) {

@@ -6,17 +6,18 @@ use flight::lent::close_lent;
 use libc::STDOUT_FILENO;
 use listing::listing::as_set;
 use plan::plan::Plan;
-use plan::plan::Settings;
 use protocol::answers::Decision;
 use protocol::records::Record;
 use receiving::receiving::receive;
 use sending::sending::send;
+use settings::settings::Settings;
 ghost use mathlib.Core.Path.{_≡_};
-ghost use Rattle.flight.specs.Lent.{lentClosing};
+ghost use Rattle.protocol.specs.Rounds.{boardWith};
+ghost use Rattle.protocol.specs.Calls.{closing};
 
 // Closes a round: the record is lent to the call.
 fn close_round(r: Record, cells: &mut [Value]) -> Record
-    ensures { λ x. ⌜ (x ≡ lentClosing r (now (cells .entry)) .rec) × (now (cells .exit) ≡ lentClosing r (now (cells .entry)) .cells) ⌝ }
+    ensures { λ x. ⌜ boardWith x (now (cells .exit)) ≡ closing (boardWith r (now (cells .entry))) .board ⌝ }
 {
     let mut own = r;
     close_lent(&mut own, cells);

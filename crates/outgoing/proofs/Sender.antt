@@ -1,27 +1,23 @@
 -- The frame of a sender outside F, by the answers of the calls that give it.
 -- Assumes nothing.
-use Prim.Native.Nat.{ℕ, _+_, _-_, _*_, _≤_}
+use Prim.Native.Nat.{ℕ, _+_, _-_, _*_}
 use mathlib.Core.Path.{_≡_, refl, sym, ap, _∙_}
 use mathlib.Core.Logic.{_≢_}
 use mathlib.Core.Bool.{true, false, cond}
 use mathlib.Core.List.{List, [], _∷_}
 use native.Mathlib.Omega.{arith}
-use lib.Dec.{ltb}
-use lib.ListN.{length, getD, take, drop, replicate}
-use borrow.Author.Tests.{eq-eqb, ne-eqb, ltb-false}
-use Rattle.sets.specs.Search.{any}
-use Rattle.sets.proofs.Tests.{cases}
-use Rattle.refusals.specs.Outcome.{Outcome, taken, refused}
-use Rattle.refusals.proofs.Outcomes.{both-taken, passed, taken-first}
+use lib.ListN.{getD, take, drop, replicate}
+use borrow.Author.Tests.{eq-eqb, ne-eqb}
+use Rattle.sets.specs.Sets.{member}
+use Rattle.refusals.specs.Outcome.{taken}
 use Rattle.protocol.specs.Limits.{frameRoom}
-use Rattle.protocol.specs.Nodes.{due}
 use Rattle.tree.specs.Places.{cellCount}
 use Rattle.protocol.specs.Rounds.{boardWith, Board}
-use Rattle.protocol.specs.Calls.{isTaken, judgeOpen, dealing, wireOf, judgeSending, sending}
+use Rattle.protocol.specs.Calls.{isTaken, dealing, sending}
 use Rattle.protocol.specs.Playing.{part}
 use Rattle.protocol.specs.declared.head.Head.{Head}
 use Rattle.stage.specs.Stage.{Stage, noRecord, boardOn}
-use Rattle.outgoing.specs.Outgoing.{dealtFrame, frameFrom}
+use Rattle.outgoing.specs.Outgoing.{dealtFrame, frameFrom, healthyFrame}
 
 pub dealt-taken : (h : Head) (v : ℕ) → taken (v ∷ []) ≡ dealing (h .plan) (h .word) → v ∷ [] ≡ dealtFrame h
 unfolding dealtFrame isTaken
@@ -30,20 +26,6 @@ dealt-taken h v e = ap (λ o. cond (isTaken o) (o .values) []) e
 pub dealt-refused : (h : Head) → dealing (h .plan) (h .word) .number ≢ 0 → [] ≡ dealtFrame h
 unfolding dealtFrame isTaken
 dealt-refused h ne = rw (ne-eqb (dealing (h .plan) (h .word) .number) 0 ne) refl
-
--- A writing that is taken fits its output.
-pub sending-fits : (b : Board) (out : List ℕ) (k : ℕ) → sending b out .answer ≡ taken (k ∷ []) → k ≤ length out
-unfolding sending judgeSending isTaken
-sending-fits b out k e =
-    let r = b .rec in
-    let f = wireOf b in
-    let some-due = any (λ i. due (r .plan) (r .board) i (r .round)) (r .plan .n) in
-    let (e1, e2) = both-taken (judgeOpen b) _ (ap (λ o. o .number) e) in
-    let on : some-due ≡ true = cases some-due (λ x. x) (λ x. absurd (let z : 16 ≡ 0 = rw x at e2 in let y : ⊥ = omega arith in y)) in
-    let fits : ltb (length out) (length f) ≡ false = passed (ltb (length out) (length f)) (refused 17) _ (omega arith) (rw on at e2) .0 in
-    let answer : judgeSending b out ≡ taken (length f ∷ []) = taken-first (judgeOpen b) _ e1 ∙ rw (on, fits) refl in
-    let size : length f ≡ k = ap (λ (o : Outcome). getD (o .values) 0 0) (sym answer ∙ e) in
-    omega (arith, ltb-false (length out) (length f) fits)
 
 module _ (h : Head) (q : ℕ) (b : Board) where
   pub from-dealer : q ≡ h .plan .dealer → dealtFrame h ≡ frameFrom h q b
@@ -62,6 +44,15 @@ module _ (h : Head) (q : ℕ) (b : Board) where
   unfolding frameFrom isTaken
   from-nobody out ne e t =
       rw (ne-eqb q (h .plan .dealer) ne, ne-eqb (sending b (replicate frameRoom 0) .answer .number) 0 (λ z. t (ap (λ x. sending b x .answer .number) e ∙ z))) refl
+
+  -- A faulty board has no frame.
+  pub none-faulty : member q (h .faulty) ≡ true → [] ≡ healthyFrame h q b
+  unfolding healthyFrame
+  none-faulty e = rw e refl
+
+  pub frame-healthy : member q (h .faulty) ≡ false → healthyFrame h q b ≡ frameFrom h q b
+  unfolding healthyFrame
+  frame-healthy e = rw e refl
 
 -- Board q with its part as it is lent.
 pub board-lent : (h : Head) (q : ℕ) (st : Stage) (c : ℕ) → c ≡ cellCount (h .plan .n)

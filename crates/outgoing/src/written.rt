@@ -1,27 +1,25 @@
 // The frame that a board outside F writes.
-use beginning::dealing::deal;
 use codec::value::Value;
+use dealing::dealing::deal;
+use levels::levels::cell_count;
 use protocol::answers::Dealt;
 use protocol::answers::Sent;
 use protocol::head::Head;
 use protocol::records::Record;
 use sending::sending::send;
 use sets::boards::member;
-use tree::levels::cell_count;
 ghost use mathlib.Core.Path.{_≡_};
-ghost use mathlib.Core.Bool.{false};
-ghost use Prim.Native.Nat.{_≤_, _<_};
-ghost use lib.ListN.{length, take, replicate};
-ghost use Rattle.sets.specs.Sets.{member};
+ghost use Prim.Native.Nat.{_≤_};
+ghost use lib.ListN.{length, replicate};
 ghost use Rattle.protocol.specs.Limits.{frameRoom};
 ghost use Rattle.protocol.specs.Rounds.{boardWith};
-ghost use Rattle.stage.specs.Stage.{Roomy, boardOn};
-ghost use Rattle.outgoing.specs.Outgoing.{dealtFrame, frameFrom};
+ghost use Rattle.stage.specs.Stage.{boardOn};
+ghost use Rattle.outgoing.specs.Outgoing.{dealtFrame, frameFrom, healthyFrame, Written, Sends};
 
 // The dealer's frame; its length.
 fn dealer_frame(head: Head, frame: &mut [u8]) -> usize
     requires { ⌜ 1 ≤ length (now frame) ⌝ }
-    ensures { λ k. ⌜ (k ≤ 1) × (take k (now (frame .exit)) ≡ dealtFrame head) ⌝ }
+    ensures { λ k. ⌜ Written k 1 (now (frame .exit)) (dealtFrame head) ⌝ }
 {
     let plan = head.plan;
     match deal(plan, head.word) {
@@ -36,7 +34,7 @@ fn dealer_frame(head: Head, frame: &mut [u8]) -> usize
 // The frame of board q, which is outside F; its length.
 fn frame_of(head: Head, q: u8, r: Record, cells: &[Value], frame: &mut [u8]) -> usize
     requires { ⌜ now frame ≡ replicate frameRoom 0 ⌝ }
-    ensures { λ k. ⌜ (k ≤ frameRoom) × (take k (now (frame .exit)) ≡ frameFrom head q (boardWith r (now (cells .entry)))) ⌝ }
+    ensures { λ k. ⌜ Written k frameRoom (now (frame .exit)) (frameFrom head q (boardWith r (now (cells .entry)))) ⌝ }
 {
     let dealer = head.plan.dealer;
     if q == dealer {
@@ -56,8 +54,8 @@ pub fn sender_frame(
     cells: &[Value],
     frame: &mut [u8],
 ) -> usize
-    requires { ⌜ Roomy head (now cells) × (q < head .plan .n) × (now frame ≡ replicate frameRoom 0) ⌝ }
-    ensures { λ k. ⌜ (k ≤ frameRoom) × (member q (head .faulty) ≡ false → take k (now (frame .exit)) ≡ frameFrom head q (boardOn (head .plan .n) (record { recs = records; cells = now (cells .entry) }) q)) ⌝ }
+    requires { ⌜ Sends head q (now cells) (now frame) ⌝ }
+    ensures { λ k. ⌜ Written k frameRoom (now (frame .exit)) (healthyFrame head q (boardOn (head .plan .n) (record { recs = records; cells = now (cells .entry) }) q)) ⌝ }
 {
     if member(head.faulty, q) {
         return 0;

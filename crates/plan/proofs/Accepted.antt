@@ -10,9 +10,10 @@ use lib.Dec.{leb, ltb}
 use lib.ListN.{length, replicate}
 use borrow.Author.Tests.{eq-eqb, ne-eqb, ltb-false, leb-false}
 use Rattle.refusals.specs.Outcome.{refused, andThen}
-use Rattle.plan.specs.declared.plan.Settings.{Settings}
+use Rattle.settings.specs.declared.settings.Settings.{Settings}
 use Rattle.admission.specs.Calls.{admitting}
-use Rattle.plan.specs.Calls.{isDepth, judgeSettings, planning, planned, planOn, voidPlan, judged}
+use Rattle.settings.specs.Planning.{isDepth, judgeSettings, planning}
+use Rattle.plan.specs.Calls.{planned, planOn, voidPlan, judged}
 use Rattle.plan.specs.Listed.{listed}
 use Rattle.refusals.proofs.Outcomes.{passed, both-taken}
 use Rattle.admission.proofs.Admitted.{Admitted, admitted}

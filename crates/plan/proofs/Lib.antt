@@ -1,4 +1,2 @@
 pub mod Accepted
-pub mod Slots
-pub mod Tabled
 pub mod Own

@@ -11,7 +11,8 @@ use Rattle.plan.specs.declared.plan.Plan.{Plan}
 use Rattle.plan.specs.Listed.{listed}
 use Rattle.refusals.specs.Outcome.{refused, andThen}
 use Rattle.admission.specs.Calls.{admitting}
-use Rattle.plan.specs.Calls.{planning, settingsOf, judged}
+use Rattle.settings.specs.Planning.{planning}
+use Rattle.plan.specs.Calls.{settingsOf, judged}
 
 -- A plan with a count above 32.
 pub judged-none : (p : Plan) → p .n ≡ 0 → judged p ≡ refused 1

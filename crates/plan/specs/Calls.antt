@@ -1,29 +1,14 @@
 -- The public call that makes a plan, and what it says of a plan's own fields.
 use Prim.Native.Nat.{ℕ, _-_}
-use mathlib.Core.Bool.{Bool, not, _&&_, _||_, cond}
-use mathlib.Core.List.{List, [], _++_}
-use lib.Dec.{eqb, leb, ltb}
+use mathlib.Core.Bool.{cond}
+use mathlib.Core.List.{List, _++_}
+use lib.Dec.{eqb}
 use lib.ListN.{length, replicate}
-use Rattle.refusals.specs.Outcome.{Outcome, taken, refused, andThen}
-use Rattle.admission.specs.Calls.{admitting}
+use Rattle.refusals.specs.Outcome.{Outcome}
+use Rattle.settings.specs.Planning.{planning}
 use Rattle.plan.specs.Listed.{listed}
 use Rattle.plan.specs.declared.plan.Plan.{Plan}
-use Rattle.plan.specs.declared.plan.Settings.{Settings}
-
--- 01: "a depth b, which is 0 or 4 to 7".
-unfoldable pub isDepth : ℕ → Bool
-isDepth b = eqb b 0 || (leb 4 b && leb b 7)
-
--- 01, 'Planning': 6, 7 and 8.
-unfoldable pub judgeSettings : ℕ → Settings → Outcome
-judgeSettings n s =
-    cond (leb n (s .dealer)) (refused 6)
-    (cond (ltb (s .span) 2) (refused 7)
-    (cond (not (isDepth (s .depth))) (refused 8) (taken [])))
-
--- 01, 'Planning': "1 to 5, then 6 .. 7 .. 8".
-unfoldable pub planning : ℕ → ℕ → List ℕ → Settings → Outcome
-planning n count sets s = andThen (admitting n count sets) (judgeSettings n s)
+use Rattle.settings.specs.declared.settings.Settings.{Settings}
 
 -- The plan returned beside a refusal: one void value, which no call accepts.
 unfoldable pub voidPlan : Plan
@@ -44,10 +29,18 @@ planOn n sets s = record {
 unfoldable pub planned : ℕ → List ℕ → Settings → Plan
 planned n sets s = cond (eqb (planning n (length sets) sets s .number) 0) (planOn n sets s) voidPlan
 
+-- The answer to planning, and the plan beside it.
+pub record Plans : Type 0 where
+  pub answer : Outcome
+  pub plan : Plan
+
+abbrev pub plans : ℕ → List ℕ → Settings → Plans
+plans n sets s = record { answer = planning n (length sets) sets s; plan = planned n sets s }
+
 -- The settings of a plan.
 abbrev pub settingsOf : Plan → Settings
 settingsOf p = record { dealer = p .dealer; span = p .span; depth = p .depth }
 
--- What planning says of a plan's own fields (01, number 12: "a record whose plan .. would meet 1 to 8").
+-- What planning says of a plan's own fields (01, number 12: "a record whose plan or board would meet 1 to 10"; 9 and 10 are the board's).
 unfoldable pub judged : Plan → Outcome
 judged p = planning (p .n) (p .count) (listed p) (settingsOf p)

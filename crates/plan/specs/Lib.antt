@@ -1,4 +1,3 @@
 pub mod Listed
 pub mod Calls
 pub mod Values
-pub mod Tabled

@@ -1,4 +1,3 @@
-// Plans: planning, and the listed sets and values of a plan.
-pub mod listed;
+// Plans, the call that makes one, and the values of a plan.
 pub mod plan;
 pub mod values;

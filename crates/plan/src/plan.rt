@@ -1,16 +1,17 @@
 // Plans, and the call that makes one.
-use admission::admitting::admit;
 use admission::limits::BOARDS;
 use admission::limits::SETS;
 use codec::value::Value;
 use refusals::refusal::Refusal;
 use refusals::refusal::Verdict;
+use settings::planning::judge;
+use settings::settings::Settings;
 ghost use mathlib.Core.Path.{_≡_};
 ghost use Prim.Native.Nat.{_-_, _≤_};
 ghost use mathlib.Core.List.{_++_};
 ghost use lib.ListN.{length, replicate};
 ghost use Rattle.refusals.specs.Outcome.{verdict};
-ghost use Rattle.plan.specs.Calls.{judgeSettings, planning, planned, planOn, voidPlan, judged};
+ghost use Rattle.plan.specs.Calls.{plans, planOn, voidPlan, judged};
 
 // A list of sets, a dealer, a span (values are below it) and a depth (0: the tree is not cut).
 // The slots of `sets` past the count are ignored.
@@ -21,13 +22,6 @@ pub struct Plan {
     pub depth: u8,
     pub count: u8,
     pub sets: [u8; SETS],
-}
-
-// What a plan has beside its sets: a dealer, a span and a depth.
-pub struct Settings {
-    pub dealer: u8,
-    pub span: Value,
-    pub depth: u8,
 }
 
 // The answer to planning, and the plan; beside a refusal the void plan.
@@ -41,18 +35,12 @@ impl Plan {
     pub const BOARDS: u8 = BOARDS;
     // The most sets.
     pub const SETS: usize = SETS;
-    // The least span.
-    pub const SPAN: Value = 2;
-    // The depths of a cut tree.
-    pub const SHALLOW: u8 = 4;
-
-    pub const DEEP: u8 = 7;
     // A cell without a value; no value is it, since values are below a span of at most this.
     pub const BLANK: Value = 255;
 
     // Planning: 1 to 8, in order.
     pub fn new(n: u8, sets: &[u8], settings: Settings) -> Planned
-        ensures { λ r. ⌜ (verdict (r .answer) ≡ planning n (length (now (sets .entry))) (now (sets .entry)) settings) × (r .plan ≡ planned n (now (sets .entry)) settings) ⌝ }
+        ensures { λ r. ⌜ record { answer = verdict (r .answer); plan = r .plan } ≡ plans n (now (sets .entry)) settings ⌝ }
     {
         let answer = judge(n, sets, settings);
         match answer {
@@ -140,40 +128,4 @@ fn copied(sets: &[u8]) -> [u8; SETS]
         i += 1;
     }
     slots
-}
-
-// 1 to 8, in order.
-fn judge(n: u8, sets: &[u8], settings: Settings) -> Verdict
-    ensures { λ r. ⌜ verdict r ≡ planning n (length (now (sets .entry))) (now (sets .entry)) settings ⌝ }
-{
-    let answer = admit(n, sets);
-    match answer {
-        Verdict::Accepted => judge_settings(n, settings),
-        Verdict::Refused(why) => Verdict::Refused(why),
-    }
-}
-
-// 6, 7 and 8.
-fn judge_settings(n: u8, settings: Settings) -> Verdict
-    ensures { λ r. ⌜ verdict r ≡ judgeSettings n settings ⌝ }
-{
-    let dealer = settings.dealer;
-    let span = settings.span;
-    let depth = settings.depth;
-    if n <= dealer {
-        return Verdict::Refused(Refusal::Dealer);
-    }
-    if span < Plan::SPAN {
-        return Verdict::Refused(Refusal::Span);
-    }
-    if depth == 0 {
-        return Verdict::Accepted;
-    }
-    if depth < Plan::SHALLOW {
-        return Verdict::Refused(Refusal::Depth);
-    }
-    if Plan::DEEP < depth {
-        return Verdict::Refused(Refusal::Depth);
-    }
-    Verdict::Accepted
 }

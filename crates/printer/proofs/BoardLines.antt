@@ -8,7 +8,7 @@ use mathlib.Core.List.{List, [], _∷_, _++_, append-assoc, append-nil}
 use native.Mathlib.Numerals.{add-one}
 use native.Mathlib.Omega.{arith}
 use lib.Dec.{eqb, leb}
-use lib.ListN.{length, getD, drop, length-append, List·getD-map}
+use lib.ListN.{length, getD, length-append, List·getD-map}
 use lib.Seq.{sets}
 use borrow.Author.Tests.{eqb-false, lt-leb, le-leb}
 use Rattle.codec.specs.Codec.{encode}
@@ -23,7 +23,7 @@ use Rattle.protocol.specs.Session.{Boards, boardAt, nobody}
 use Rattle.protocol.specs.declared.head.Head.{Head}
 use Rattle.hex.specs.Hex.{hexByte, hexBytes}
 use Rattle.protocol.specs.Playing.{hexValue, printed, boardLine, printBoards}
-use Rattle.printer.specs.Printed.{boardsOf, healthyLine, boardLines}
+use Rattle.printer.specs.Printed.{boardsOf, healthyLine, boardLines, atFront}
 use Rattle.printer.proofs.Stores.{stores-more}
 
 -- The record of board i.
@@ -133,14 +133,14 @@ module _ (h : Head) (records : List Record) (out : List ℕ) where
   abbrev text : List ℕ
   text = boardLines h records out
 
-  nothing : text ≡ [] → (0 ≡ length text) × (out ≡ text ++ drop (length text) out)
-  nothing e = rw e (refl, refl)
+  nothing : text ≡ [] → record { count = 0; out = out } ≡ atFront text out
+  nothing e = rw e refl
 
-  pub many-boards : 7 < h .plan .n → (0 ≡ length text) × (out ≡ text ++ drop (length text) out)
+  pub many-boards : 7 < h .plan .n → record { count = 0; out = out } ≡ atFront text out
   unfolding boardLines
   many-boards l = nothing (rw (lt-leb (h .plan .n) 7 l) refl)
 
-  pub short-output : length out < outputNeeded → (0 ≡ length text) × (out ≡ text ++ drop (length text) out)
+  pub short-output : length out < outputNeeded → record { count = 0; out = out } ≡ atFront text out
   unfolding boardLines
   short-output l = nothing (cases (leb (h .plan .n) 7) (λ e. rw (e, lt-leb outputNeeded (length out) l) refl) (λ e. rw e refl))
 

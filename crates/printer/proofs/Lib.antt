@@ -1,4 +1,2 @@
 pub mod Stores
 pub mod BoardLines
-pub mod Reports
-pub mod Bench

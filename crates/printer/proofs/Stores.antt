@@ -1,6 +1,6 @@
--- Lines and refusals as runs of stores.
+-- Lines as runs of stores.
 -- Assumes nothing.
-use Prim.Native.Nat.{ℕ, suc, _+_, _/_, _%_, _≤_}
+use Prim.Native.Nat.{ℕ, suc, _+_, _≤_}
 use mathlib.Core.Path.{_≡_, refl, ap, _∙_}
 use mathlib.Core.List.{List, [], _∷_, _++_}
 use native.Mathlib.Numerals.{add-two, add-four, add-six}
@@ -9,7 +9,7 @@ use lib.ListN.{length, drop, set}
 use lib.Seq.{sets, sets-eq}
 use Rattle.codec.specs.Codec.{encode}
 use Rattle.hex.specs.Hex.{hexByte, hexBytes}
-use Rattle.protocol.specs.Playing.{hexValue, printed, refusalText}
+use Rattle.protocol.specs.Playing.{hexValue, printed}
 
 -- Two runs, one after the other.
 pub stores-more : (l a b : List ℕ) (i k : ℕ) → k ≡ i + length a → sets (sets l i a) k b ≡ sets l i (a ++ b)
@@ -27,13 +27,3 @@ pub line-stores : (o : List ℕ) (at board decision detected : ℕ)
     ≡ sets o at (printed board decision detected [])
 unfolding encode hexByte hexBytes hexValue printed
 line-stores o at board decision detected = rw (add-two at, add-four at, add-six at) refl
-
-pub refusal-stores : (o : List ℕ) (number line : ℕ)
-    → set (sets (sets (sets (sets o 0 (hexByte 255 [])) 2 (hexByte number [])) 4 (hexByte (line / 256) [])) 6 (hexByte (line % 256) [])) 8 10
-    ≡ sets o 0 (refusalText number line)
-unfolding hexByte refusalText
-refusal-stores o number line = refl
-
-pub refusal-size : (number line : ℕ) → length (refusalText number line) ≡ 9
-unfolding hexByte refusalText
-refusal-size number line = refl

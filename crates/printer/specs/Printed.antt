@@ -2,17 +2,14 @@
 use Prim.Native.Nat.{ℕ}
 use mathlib.Core.Bool.{_&&_, cond}
 use mathlib.Core.List.{List, [], map, _++_}
-use lib.Dec.{eqb, leb, ltb}
+use lib.Dec.{eqb, leb}
 use lib.ListN.{length, drop}
-use Rattle.refusals.specs.Outcome.{refusal}
 use Rattle.protocol.specs.Limits.{outputNeeded}
 use Rattle.protocol.specs.declared.records.Record.{Record}
-use Rattle.protocol.specs.declared.answers.Played.{Played}
-use Rattle.protocol.specs.declared.answers.Played.the-variants.{Written, Refused}
 use Rattle.protocol.specs.Listing.{asSet}
 use Rattle.protocol.specs.Session.{Boards}
 use Rattle.protocol.specs.declared.head.Head.{Head}
-use Rattle.protocol.specs.Playing.{printed, printBoards, refusalText}
+use Rattle.protocol.specs.Playing.{printed, printBoards}
 use Rattle.protocol.specs.Rounds.{boardWith}
 
 -- Boards with these records; printing reads no cells.
@@ -29,11 +26,11 @@ boardLines h records out =
     let text = printBoards h (boardsOf records) 0 (h .plan .n) in
     cond (leb (h .plan .n) 7 && leb outputNeeded (length out)) text []
 
--- What is printed for an answer: how many bytes of the output, and the output. Nothing if it does not fit.
-unfoldable pub reportLength : Played → List ℕ → ℕ
-reportLength (Written k) out = cond (ltb (length out) k) 0 k
-reportLength (Refused why line) out = cond (ltb (length out) 9) 0 9
+-- How many bytes of the output are to be printed, and the output.
+pub record Output : Type 0 where
+  pub count : ℕ
+  pub out : List ℕ
 
-unfoldable pub reportOut : Played → List ℕ → List ℕ
-reportOut (Written k) out = out
-reportOut (Refused why line) out = let text = refusalText (refusal why .number) line ++ drop 9 out in cond (ltb (length out) 9) out text
+-- A text at the front of the output, whose rest stays.
+abbrev pub atFront : List ℕ → List ℕ → Output
+atFront text out = record { count = length text; out = text ++ drop (length text) out }

@@ -18,7 +18,8 @@ use Rattle.sets.proofs.Tests.{cases, and-l, and-r, or-r, not-f}
 use Rattle.plan.specs.declared.plan.Plan.{Plan}
 use Rattle.plan.specs.Listed.{listed}
 use Rattle.refusals.specs.Outcome.{Outcome, taken, refused}
-use Rattle.plan.specs.Calls.{planning, planOn, judged, settingsOf}
+use Rattle.settings.specs.Planning.{planning}
+use Rattle.plan.specs.Calls.{planOn, judged, settingsOf}
 use Rattle.refusals.proofs.Outcomes.{passed, both-taken}
 use Rattle.plan.proofs.Accepted.{accepted, planned-taken, planned-judged}
 use Rattle.tree.specs.Places.{levelSize, levelStart, cellCount}

@@ -1,6 +1,6 @@
 -- What a handing in, a writing and a closing that are taken have passed, and what they leave; one that is refused leaves the board as it is.
 -- Assumes nothing.
-use Prim.Native.Nat.{ℕ, _<_}
+use Prim.Native.Nat.{ℕ, _≤_, _<_}
 use mathlib.Core.Path.{_≡_, refl, sym, _∙_, ap₂, ap}
 use mathlib.Core.List.{List, _∷_, _++_, []}
 use mathlib.Core.Bool.{true, false, not, _&&_}
@@ -8,7 +8,7 @@ use native.Mathlib.Omega.{arith}
 use lib.ListN.{length, take, drop, getD}
 use lib.Dec.{ltb, eqb}
 use lib.Seq.{take-at}
-use borrow.Author.Tests.{ltb-true}
+use borrow.Author.Tests.{ltb-true, ltb-false}
 use Rattle.sets.proofs.Tests.{cases, and-l}
 use Rattle.sets.specs.Sets.{member}
 use Rattle.sets.specs.Search.{any}
@@ -23,14 +23,14 @@ use Rattle.protocol.proofs.Judgement.{open-facts, Open, taken-is}
 
 -- What a handing in that is taken has passed.
 pub receiving-facts : (b : Board) (q : ℕ) → judgeReceiving b q .number ≡ 0
-    → Open b × (due (b .rec .plan) q (b .rec .board) (b .rec .round) ≡ true) × (member q (b .rec .taken) ≡ false)
+    → Open b × (due (b .rec .plan) q (b .rec .board) (b .rec .round) ≡ true) × (member q (b .rec .marks) ≡ false)
 unfolding judgeReceiving
 receiving-facts b q e =
     let r = b .rec in
     let (e1, e2) = both-taken (judgeOpen b) _ e in
     let d = due (r .plan) q (r .board) (r .round) in
     let on : d ≡ true = cases d (λ x. x) (λ x. absurd (let z : 14 ≡ 0 = rw x at e2 in let y : ⊥ = omega arith in y)) in
-    (open-facts b e1, on, passed (member q (r .taken)) (refused 15) (taken []) (omega arith) (rw on at e2) .0)
+    (open-facts b e1, on, passed (member q (r .marks)) (refused 15) (taken []) (omega arith) (rw on at e2) .0)
 
 pub due-sender : (p : Plan) (q i : ℕ) (k : Round) → due p q i k ≡ true → q < p .n
 unfolding due
@@ -54,12 +54,16 @@ pub closing-refused : (b : Board) → isTaken (judgeOpen b) ≡ false → closin
 unfolding closing
 closing-refused b e = rw e
 
--- A writing that is taken is made by an open board, and gives its frame.
+-- A writing that is taken is made by an open board, fits the output and gives the board's frame.
 pub sending-open : (b : Board) (out : List ℕ) → sending b out .answer .number ≡ 0 → Open b
 unfolding sending judgeSending
 sending-open b out e = open-facts b (both-taken (judgeOpen b) _ e .0)
 
-pub sending-gives : (b : Board) (out : List ℕ) (k : ℕ) → sending b out .answer ≡ taken (k ∷ []) → take k (sending b out .out) ≡ wireOf b
+pub record Gives (b : Board) (out : List ℕ) (k : ℕ) : Type 0 where
+  pub fits : k ≤ length out
+  pub frame : take k (sending b out .out) ≡ wireOf b
+
+pub sending-gives : (b : Board) (out : List ℕ) (k : ℕ) → sending b out .answer ≡ taken (k ∷ []) → Gives b out k
 unfolding sending judgeSending isTaken
 sending-gives b out k e =
     let r = b .rec in
@@ -71,7 +75,10 @@ sending-gives b out k e =
     let answer : judgeSending b out ≡ taken (length f ∷ []) = taken-first (judgeOpen b) _ e1 ∙ rw (on, fits) refl in
     let size : length f ≡ k = ap (λ (o : Outcome). getD (o .values) 0 0) (sym answer ∙ e) in
     let written : sending b out .out ≡ f ++ drop (length f) out = rw answer refl in
-    ap₂ take (sym size) written ∙ take-at f (drop (length f) out) (length f) refl
+    record {
+      fits = omega (arith, ltb-false (length out) (length f) fits);
+      frame = ap₂ take (sym size) written ∙ take-at f (drop (length f) out) (length f) refl;
+    }
 
 -- A closing is taken exactly if the board is open.
 pub closing-open : (b : Board) → closing b .answer .number ≡ 0 → judgeOpen b .number ≡ 0

@@ -56,7 +56,7 @@ unfolding receive
 frame-stored q f b = refl
 
 -- A frame that was taken stays as it is.
-pub taken-stays : (r : Record) (k : ℕ) (cells : List ℕ) → member k (r .taken) ≡ true → fillMissing (r .plan) (r .board) (r .round) (r .taken) (suc k) cells ≡ fillMissing (r .plan) (r .board) (r .round) (r .taken) k cells
+pub taken-stays : (r : Record) (k : ℕ) (cells : List ℕ) → member k (r .marks) ≡ true → fillMissing (r .plan) (r .board) (r .round) (r .marks) (suc k) cells ≡ fillMissing (r .plan) (r .board) (r .round) (r .marks) k cells
 unfolding fillMissing
 taken-stays r k cells m = cases (due (r .plan) k (r .board) (r .round)) (λ d. rw (d, m) refl) (λ d. rw d refl)
 

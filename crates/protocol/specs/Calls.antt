@@ -61,7 +61,7 @@ unfoldable pub goodPosition : Record → Bool
 goodPosition r = hasRound (r .plan) (r .run) (r .round)
 
 unfoldable pub goodMarks : Record → Bool
-goodMarks r = within (asSet (r .detected)) (boards (r .plan .n)) && within (r .taken) (boards (r .plan .n))
+goodMarks r = within (asSet (r .detected)) (boards (r .plan .n)) && within (r .marks) (boards (r .plan .n))
 
 unfoldable pub goodDecision : Record → Bool
 goodDecision r = not (r .decided) || ltb (r .decision) (r .plan .span)
@@ -92,7 +92,7 @@ voidRecord = record {
   run = record { 0 = 0 };
   round = record { 0 = 0 };
   detected = 0;
-  taken = 0;
+  marks = 0;
   decided = false;
   decision = 0;
 }
@@ -117,7 +117,7 @@ unfoldable pub judgeReceiving : Board → ℕ → Outcome
 judgeReceiving b q =
     let r = b .rec in
     andThen (judgeOpen b)
-    (cond (due (r .plan) q (r .board) (r .round)) (cond (member q (r .taken)) (refused 15) (taken [])) (refused 14))
+    (cond (due (r .plan) q (r .board) (r .round)) (cond (member q (r .marks)) (refused 15) (taken [])) (refused 14))
 
 -- The values of board q's frame.
 unfoldable pub taking : Board → ℕ → List ℕ → Result

@@ -5,9 +5,11 @@ use mathlib.Core.List.{List, [], _∷_, _++_}
 use lib.Dec.{eqb}
 use lib.ListN.{length, getD, replicate}
 use Rattle.plan.specs.declared.plan.Plan.{Plan}
-use Rattle.schedule.specs.Schedule.{height, rounds, runs, steps}
+use Rattle.heights.specs.Levels.{height}
+use Rattle.schedule.specs.Schedule.{rounds, runs, steps}
 use Rattle.admission.specs.Calls.{admitting}
-use Rattle.plan.specs.Calls.{planning, planned}
+use Rattle.settings.specs.Planning.{planning}
+use Rattle.plan.specs.Calls.{planned}
 use Rattle.protocol.specs.Limits.{outputNeeded, cellsNeeded}
 use Rattle.protocol.specs.Nodes.{nodes}
 use Rattle.protocol.specs.Calls.{beginning, receiving}

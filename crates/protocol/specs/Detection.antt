@@ -26,7 +26,7 @@ use Rattle.protocol.specs.Nodes.{read, internal, nodes, inner}
 unfoldable pub vote : Plan → Label → (ℕ → Option ℕ) → Option ℕ
 vote p α f = only (λ v. not (tolerated (listed p) (setOf (λ c. not (occurs c α) && same (f c) (some v)) (p .n)))) (p .span)
 
--- f at the boards 0 to k - 1, rising.
+-- f at the boards i to i + k - 1, rising.
 unfoldable pub tabulate : (ℕ → Option ℕ) → ℕ → ℕ → List (Option ℕ)
 tabulate f i zero = []
 tabulate f i (suc k) = f i ∷ tabulate f (suc i) k
@@ -61,7 +61,7 @@ byResolving p i cells α c = resolve p i cells (rounds p .0 - suc (length α)) (
 unfoldable pub passes : Plan → Label → (ℕ → Option ℕ) → ℕ → Bool
 passes p α f detected = member (last α) (asSet detected) || explained p α f detected
 
--- The list and the cells, as a rule goes over the nodes.
+-- The list and the cells, as a rule goes over the nodes: 01 has both change "before the next node is looked at".
 pub record Scan : Type 0 where
   pub detected : ℕ
   pub cells : List ℕ

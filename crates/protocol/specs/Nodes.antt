@@ -26,17 +26,18 @@ filter f (α ∷ αs) = let rest = filter f αs in cond (f α) (α ∷ rest) res
 unfoldable pub internal : Plan → ℕ → Label → Bool
 internal p i α = tolerated (listed p) (mask α) && ltb (length α) (rounds p .0)
 
--- The nodes of level k, in cell order: the root, and the children of internal nodes.
+-- The nodes of level k, in cell order: the root, and the children of internal nodes. 01: "An internal node has one child for each board not
+-- in it."
 unfoldable pub nodes : Plan → ℕ → ℕ → List Label
 nodes p i zero = []
 nodes p i (suc zero) = (p .dealer ∷ []) ∷ []
 nodes p i (suc (suc k)) = childrenOf (p .n) (filter (internal p i) (nodes p i (suc k)))
 
--- The internal nodes of level k, in cell order.
+-- The internal nodes of level k, in cell order. 01: "It is internal if its boards form a tolerated set".
 unfoldable pub inner : Plan → ℕ → ℕ → List Label
 inner p i k = filter (internal p i) (nodes p i k)
 
--- 01: "the cells of all internal nodes of level k − 1 without q, in cell order": those of level k, for board i.
+-- 01: "the cells of all internal nodes of level k − 1 without q, in cell order". Here k is the level itself, and the nodes are those of board i.
 unfoldable pub carried : Plan → ℕ → ℕ → ℕ → List Label
 carried p q i k = filter (λ α. not (occurs q α)) (inner p i k)
 
@@ -49,6 +50,6 @@ sent p q i k = cond (eqb (k .0) 1) (cond (eqb q (p .dealer)) ([] ∷ []) []) (ca
 unfoldable pub due : Plan → ℕ → ℕ → Round → Bool
 due p q i k = (ltb q (p .n) && ltb i (p .n)) && (not (eqb q i) && (not (eqb i (p .dealer)) && ltb 0 (length (sent p q i k))))
 
--- The frame that board q sends board i in round k.
+-- The frame that board q sends board i in round k. 01: "sends .. the cells of all internal nodes .. in cell order".
 unfoldable pub frame : Plan → ℕ → ℕ → Round → List ℕ → List ℕ
 frame p q i k cells = map (read p cells) (sent p q i k)

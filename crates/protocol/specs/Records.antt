@@ -17,27 +17,27 @@ standingAt p i t k detected = record {
   run = t;
   round = k;
   detected = detected;
-  taken = 0;
+  marks = 0;
   decided = false;
   decision = 0;
 }
 
 -- A record with other marks.
-abbrev pub withTaken : Record → ℕ → Record
-withTaken r t = record {
+abbrev pub withMarks : Record → ℕ → Record
+withMarks r t = record {
   plan = r .plan;
   board = r .board;
   run = r .run;
   round = r .round;
   detected = r .detected;
-  taken = t;
+  marks = t;
   decided = r .decided;
   decision = r .decision;
 }
 
 -- A frame of board q was taken.
 abbrev pub marked : ℕ → Record → Record
-marked q r = withTaken r (insert q (r .taken))
+marked q r = withMarks r (insert q (r .marks))
 
 -- The next round of the same run.
 abbrev pub advanced : Record → ℕ → Record
@@ -53,7 +53,7 @@ runEnded r detected root =
       run = record { 0 = cond last (r .run .0) (r .run .0 + 1) };
       round = record { 0 = cond last (r .round .0) 2 };
       detected = detected;
-      taken = 0;
+      marks = 0;
       decided = last;
       decision = cond last root 0;
     }

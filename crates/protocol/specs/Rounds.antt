@@ -40,20 +40,20 @@ fill p q (α ∷ αs) (v ∷ vs) cells = fill p q αs vs (store (p .n) cells (q 
 unfoldable pub counted : ℕ → ℕ → List Label → List ℕ → List ℕ
 counted detected q αs f = cond (eqb (length f) (length αs) && not (member q (asSet detected))) f []
 
--- A frame of board q is taken.
+-- A frame of board q is taken. 01: "the receiver stores each at that node's child q".
 unfoldable pub receive : ℕ → List ℕ → Board → Board
 receive q f b =
     let r = b .rec in
     let αs = sent (r .plan) q (r .board) (r .round) in
     onto b (marked q r) (fill (r .plan) q αs (counted (r .detected) q αs f) (b .cells))
 
--- 01: "due frames not handed in are stored so": of the boards below j, to board i in round k, where `taken` were handed in.
+-- 01: "due frames not handed in are stored so": of the boards below j, to board i in round k, where `marks` were handed in.
 unfoldable pub fillMissing : Plan → ℕ → Round → ℕ → ℕ → List ℕ → List ℕ
-fillMissing p i k taken zero cells = cells
-fillMissing p i k taken (suc q) cells =
-    let before = fillMissing p i k taken q cells in
+fillMissing p i k marks zero cells = cells
+fillMissing p i k marks (suc q) cells =
+    let before = fillMissing p i k marks q cells in
     let stored = fill p q (sent p q i k) [] before in
-    cond (due p q i k && not (member q taken)) stored before
+    cond (due p q i k && not (member q marks)) stored before
 
 -- 01: "the board copies its own cells to its own child nodes".
 unfoldable pub copyOwn : Plan → ℕ → Round → List ℕ → List ℕ
@@ -67,7 +67,7 @@ gather b =
     let i = r .board in
     let k = r .round in
     detectAllG p i (r .run) k (inner p i (k .0 - 1))
-    (record { detected = r .detected; cells = copyOwn p i k (fillMissing p i k (r .taken) (p .n) (b .cells)) })
+    (record { detected = r .detected; cells = copyOwn p i k (fillMissing p i k (r .marks) (p .n) (b .cells)) })
 
 -- 01: "The resolved root becomes the root cell, all other cells FF". Surplus cells stay.
 unfoldable pub rootOnly : ℕ → ℕ → List ℕ → List ℕ
@@ -90,7 +90,7 @@ convert b s =
     let detected = detectLevels p (r .board) (r .run) (r .round) (s .cells) (rounds p .0 - 1) (s .detected) in
     onto b (runEnded r detected root) (rootOnly (p .n) root (s .cells))
 
--- A round is closed.
+-- A round is closed. 01: "Then comes round 2 of the next run, or the decision"; before round R the next round.
 unfoldable pub close : Board → Board
 close b =
     let s = gather b in

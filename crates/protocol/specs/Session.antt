@@ -42,10 +42,12 @@ nobody = boardWith voidRecord []
 unfoldable pub boardAt : Boards → ℕ → Board
 boardAt w i = getD w i nobody
 
+-- Board i as its beginning leaves it. 01: "has its own record and cells, as its beginning on that plan left them".
 unfoldable pub begun : Setting → ℕ → Board
 begun s i = beginning (s .plan) i (s .buffer i) .board
 
--- What board i hears from board q in step j, when all boards stand at w.
+-- What board i hears from board q in step j, when all boards stand at w. 01: "Under a number in F any bytes may be handed in, or nothing";
+-- the dealer and the others send as 01 says.
 unfoldable pub hears : Setting → Adversary → Boards → ℕ → ℕ → ℕ → Option (List ℕ)
 hears s a w i j q =
     cond (member q (s .faulty)) (a i j q)

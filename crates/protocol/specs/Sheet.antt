@@ -9,12 +9,13 @@ use Rattle.codec.specs.Codec.{width, numberAt}
 use Rattle.hex.specs.Hex.{bytesOf}
 use Rattle.sets.specs.Sets.{member, within, boards}
 use Rattle.sets.specs.Structure.{tolerated}
-use Rattle.plan.specs.declared.plan.Settings.{Settings}
+use Rattle.settings.specs.declared.settings.Settings.{Settings}
 use Rattle.schedule.specs.declared.rounds.Run.{Run}
 use Rattle.schedule.specs.declared.rounds.Round.{Round}
 use Rattle.schedule.specs.Schedule.{hasRound}
 use Rattle.refusals.specs.Outcome.{Outcome, taken, refused, andThen}
-use Rattle.plan.specs.Calls.{planning, planned}
+use Rattle.settings.specs.Planning.{planning}
+use Rattle.plan.specs.Calls.{planned}
 use Rattle.protocol.specs.declared.head.Head.{Head}
 use Rattle.protocol.specs.Nodes.{due}
 

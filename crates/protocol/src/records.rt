@@ -20,7 +20,7 @@ pub struct Record {
     // The boards that it has detected to be faulty, its list.
     pub detected: u8,
     // The senders whose frame was taken this round.
-    pub taken: u8,
+    pub marks: u8,
     pub decided: bool,
     // 0 while it is not decided.
     pub decision: Value,

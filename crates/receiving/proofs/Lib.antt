@@ -1,1 +1,1 @@
-mod Taking
+pub mod Answers

@@ -1,4 +1,2 @@
 // Handing in a frame.
-mod later;
 pub mod receiving;
-mod word;

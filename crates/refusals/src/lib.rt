@@ -1,2 +1,3 @@
 // The refusals of all calls, with their numbers.
+pub mod numbers;
 pub mod refusal;

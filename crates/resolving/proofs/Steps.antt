@@ -18,7 +18,7 @@ use borrow.Author.Tests.{ltb-true, ltb-false, lt-ltb, le-ltb}
 use Rattle.sets.specs.Sets.{member, insert}
 use Rattle.sets.proofs.Tests.{cases}
 use Rattle.plan.specs.declared.plan.Plan.{Plan}
-use Rattle.plan.specs.Tabled.{Tabled}
+use Rattle.tables.specs.Tabled.{Tabled}
 use Rattle.plan.specs.Values.{default, value}
 use Rattle.schedule.specs.Schedule.{rounds}
 use Rattle.tree.specs.Labels.{Label, occurs, mask, labels}
@@ -33,9 +33,9 @@ use Rattle.tree.proofs.Sizes.{start-suc, cells-most}
 use Rattle.tree.proofs.Within.{size-within, start-within, start-next, start-most}
 use Rattle.protocol.specs.Nodes.{read, internal}
 use Rattle.protocol.specs.Detection.{resolve}
-use Rattle.walk.specs.Walk.{isInternal}
+use Rattle.internal.specs.Tests.{isInternal}
 use Rattle.walk.proofs.Carried.{size-most}
-use Rattle.walk.proofs.InternalNodes.{internal-is}
+use Rattle.internal.proofs.InternalNodes.{internal-is}
 use Rattle.voting.specs.Worth.{worth, table}
 use Rattle.voting.specs.Tables.{voted}
 use Rattle.voting.proofs.Table.{table-zero, table-more, table-skip}

@@ -1,19 +1,18 @@
 // Resolving in place: a node leaves what it resolves to in its own cell, children before their node.
 use codec::value::Value;
+use internal::internal::is_internal;
+use levels::levels::level_size;
 use plan::plan::Plan;
 use sets::boards::member;
-use tree::levels::level_size;
 use voting::voting::vote;
-use walk::internal::is_internal;
 ghost use mathlib.Core.Path.{_≡_};
 ghost use mathlib.Core.Bool.{not, _&&_};
 ghost use Prim.Native.Nat.{_<_, _^_};
 ghost use lib.Dec.{ltb};
 ghost use lib.ListN.{length};
-ghost use Rattle.plan.specs.Tabled.{Tabled};
-ghost use Rattle.plan.specs.Values.{value};
+ghost use Rattle.tables.specs.Tabled.{Tabled};
 ghost use Rattle.schedule.specs.Schedule.{rounds};
-ghost use Rattle.walk.specs.Walk.{isInternal};
+ghost use Rattle.internal.specs.Tests.{isInternal};
 ghost use Rattle.resolving.specs.Contracts.{Convertible, Stands, Leaves, Settles, Roots, node};
 
 // Is a node with these boards a leaf to a board, with `left` levels below it?

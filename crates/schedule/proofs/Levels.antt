@@ -1,6 +1,6 @@
 -- The laws of levels and runs.
 -- Assumes nothing.
-use Prim.Native.Nat.{ℕ, _+_, _-_, _*_, _/_, _≤_, _<_, max}
+use Prim.Native.Nat.{ℕ, _+_, _-_, _*_, _/_, _≤_, _<_}
 use mathlib.Core.Path.{_≡_, _∙_, ap}
 use native.Mathlib.Nat.{div-zero, div-eq-of-lt, div-lt-iff-lt-mul, div-add-mod', mod-lt, mul-le-mul-left, mul-one, suc-mul}
 use native.Mathlib.Numerals.{add-one}
@@ -8,13 +8,10 @@ use native.Mathlib.Omega.{arith}
 use mathlib.Core.Logic.{_≢_}
 use lib.Dec.{eqb, ltb}
 use borrow.Author.Tests.{eqb-false, ltb-true}
-use lib.ListN.{length, getD, drop, drop-of-length-le}
-use lib.Seq.{drop-cons}
-use mathlib.Core.Bool.{true, false, not, cond}
-use mathlib.Core.List.{List}
-use Rattle.sets.specs.Sets.{member, size}
+use mathlib.Core.Bool.{true, false, not}
 use Rattle.plan.specs.declared.plan.Plan.{Plan}
-use Rattle.schedule.specs.Schedule.{ceilDiv, largest, height, isCut, rounds, runs}
+use Rattle.schedule.specs.Schedule.{ceilDiv, rounds, runs}
+use Rattle.heights.specs.Levels.{height, isCut}
 use Rattle.sets.proofs.Tests.{cases, and-l, and-r, not-t}
 
 pub ceil-none : (a b : ℕ) → b ≡ 0 → ceilDiv a b ≡ 0
@@ -35,16 +32,6 @@ ceil-le a b l =
 pub ceil-enough : (a b : ℕ) → 0 < b → a ≤ ceilDiv a b * b
 unfolding ceilDiv
 ceil-enough a b l = omega (arith, div-add-mod' (a + (b - 1)) b, mod-lt (a + (b - 1)) l)
-
--- One listed set more.
-pub largest-step : (sets : List ℕ) (i d : ℕ) → i < length sets
-    → largest (drop i sets) d ≡ max (cond (member d (getD sets i 0)) (size (getD sets i 0)) 0) (largest (drop (i + 1) sets) d)
-unfolding largest
-largest-step sets i d l = ap (λ x. largest x d) (drop-cons sets i 0 l) ∙ rw add-one
-
-pub largest-end : (sets : List ℕ) (i d : ℕ) → length sets ≤ i → largest (drop i sets) d ≡ 0
-unfolding largest
-largest-end sets i d l = ap (λ x. largest x d) (drop-of-length-le sets l)
 
 module _ (p : Plan) where
   pub rounds-cut : isCut p ≡ true → rounds p ≡ record { 0 = p .depth }

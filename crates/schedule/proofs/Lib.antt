@@ -1,4 +1,2 @@
 pub mod Levels
-pub mod HasRound
-pub mod Height
 pub mod Steps

@@ -12,8 +12,10 @@ use Rattle.plan.specs.declared.plan.Plan.{Plan}
 use Rattle.schedule.specs.declared.rounds.Run.{Run}
 use Rattle.schedule.specs.declared.rounds.Round.{Round}
 use Rattle.plan.specs.Listed.{listed}
-use Rattle.schedule.specs.Schedule.{isCut, rounds, runs, firstRound, hasRound, steps, step, stepRun, stepRound, ceilDiv}
-use Rattle.plan.specs.Calls.{judged, isDepth, settingsOf}
+use Rattle.heights.specs.Levels.{isCut}
+use Rattle.schedule.specs.Schedule.{rounds, runs, firstRound, hasRound, steps, step, stepRun, stepRound, ceilDiv}
+use Rattle.plan.specs.Calls.{judged, settingsOf}
+use Rattle.settings.specs.Planning.{isDepth}
 use Rattle.sets.proofs.Tests.{cases, and-l, and-r, and-true, or-true}
 use Rattle.schedule.proofs.Levels.{rounds-pos, runs-pos, rounds-cut, runs-cut, runs-full, cut-depth, ceil-enough}
 use Rattle.plan.proofs.Accepted.{accepted}

@@ -150,20 +150,17 @@ module _ {p : Plan} {holders : List ℕ} {i : ℕ} {k : Round} (s : Standing p h
         out = z ∙ ap₂ (λ βs n. encode (map (read p cells) βs) ++ drop (width * n) out) labels (y ∙ ap length labels) ∙ all .out;
       }
 
--- The two parts of what writing leaves.
+-- What writing leaves.
 module _ (b : Board) (out : List ℕ) where
-  abbrev Left : Outcome → List ℕ → Type 0
-  Left o after = (o ≡ sending b out .answer) × (after ≡ sending b out .out)
-
   judged-closed : judgeOpen b .number ≢ 0 → judgeSending b out ≡ judgeOpen b
   unfolding judgeSending
   judged-closed ne = refused-first (judgeOpen b) _ ne
 
-  pub send-closed : (o : Outcome) → o ≡ judgeOpen b → o .number ≢ 0 → Left o out
+  pub send-closed : (o : Outcome) → o ≡ judgeOpen b → o .number ≢ 0 → record { answer = o; out = out } ≡ sending b out
   unfolding sending isTaken
   send-closed o e ne =
       let j = judged-closed (λ z. ne (ap (λ (x : Outcome). x .number) e ∙ z)) in
-      rw (j, sym e, ne-eqb (o .number) 0 ne) (refl, refl)
+      rw (j, sym e, ne-eqb (o .number) 0 ne) refl
 
   judged-open : judgeOpen b .number ≡ 0 → (o : Outcome) (after : List ℕ)
       → Writes (b .rec .plan) (b .rec .board) (b .rec .round) (b .cells) out o after → judgeSending b out ≡ o
@@ -171,6 +168,6 @@ module _ (b : Board) (out : List ℕ) where
   judged-open e o after w = taken-first (judgeOpen b) _ e ∙ sym (w .answer)
 
   pub send-open : judgeOpen b .number ≡ 0 → (o : Outcome) (after : List ℕ)
-      → Writes (b .rec .plan) (b .rec .board) (b .rec .round) (b .cells) out o after → Left o after
+      → Writes (b .rec .plan) (b .rec .board) (b .rec .round) (b .cells) out o after → record { answer = o; out = after } ≡ sending b out
   unfolding sending frameOf wireOf
-  send-open e o after w = rw (judged-open e o after w) (refl, w .out)
+  send-open e o after w = ap (λ xs. record { answer = o; out = xs }) (w .out) ∙ rw (judged-open e o after w) refl

@@ -10,12 +10,9 @@ use schedule::rounds::Round;
 use walk::nodes::carried_nodes;
 ghost use mathlib.Core.Path.{_≡_};
 ghost use mathlib.Core.Bool.{_||_};
-ghost use Prim.Native.Nat.{_≤_};
 ghost use lib.Dec.{eqb, ltb};
-ghost use lib.ListN.{length};
-ghost use Rattle.tree.specs.Places.{cellCount};
 ghost use Rattle.protocol.specs.Answers.{sentSays};
-ghost use Rattle.frames.specs.Nodes.{Standing};
+ghost use Rattle.frames.specs.Nodes.{Later};
 ghost use Rattle.sending.specs.Writing.{Writes};
 
 // Is there nothing to send? Another board that keeps cells takes three boards, with this one and the dealer.
@@ -37,7 +34,7 @@ pub fn write_later(
     cells: &[Value],
     out: &mut [u8],
 ) -> Sent
-    requires { ⌜ Standing plan (now holders) board round × (2 ≤ round .0) × (cellCount (plan .n) ≤ length (now cells)) ⌝ }
+    requires { ⌜ Later plan (now holders) board round (now cells) ⌝ }
     ensures { λ x. ⌜ Writes plan board round (now (cells .entry)) (now (out .entry)) (sentSays x) (now (out .exit)) ⌝ }
 {
     let level = round.0 - 1;

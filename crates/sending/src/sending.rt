@@ -8,6 +8,7 @@ use protocol::records::Record;
 use refusals::refusal::Refusal;
 use refusals::refusal::Verdict;
 use schedule::rounds::Round;
+use tables::listed::table_of;
 ghost use mathlib.Core.Path.{_≡_};
 ghost use Prim.Native.Nat.{_≤_};
 ghost use lib.ListN.{length};
@@ -27,13 +28,13 @@ fn write(plan: Plan, board: u8, round: Round, cells: &[Value], out: &mut [u8]) -
     if k == 1 {
         return Sent::Refused(Refusal::NothingToSend);
     }
-    let holders = plan.holders();
+    let holders = table_of(plan);
     write_later(plan, &holders, board, round, cells, out)
 }
 
 // Writing a frame.
 pub fn send(r: Record, cells: &[Value], out: &mut [u8]) -> Sent
-    ensures { λ x. ⌜ (sentSays x ≡ sending (boardWith r (now (cells .entry))) (now (out .entry)) .answer) × (now (out .exit) ≡ sending (boardWith r (now (cells .entry))) (now (out .entry)) .out) ⌝ }
+    ensures { λ x. ⌜ record { answer = sentSays x; out = now (out .exit) } ≡ sending (boardWith r (now (cells .entry))) (now (out .entry)) ⌝ }
 {
     match judge_open(r, cells) {
         Verdict::Refused(why) => Sent::Refused(why),

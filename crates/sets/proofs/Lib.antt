@@ -3,6 +3,4 @@ pub mod Search
 pub mod Count
 pub mod Member
 pub mod Tolerated
-pub mod Held
-pub mod Filling
 pub mod Only

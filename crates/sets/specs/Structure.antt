@@ -6,8 +6,6 @@ use mathlib.Core.Option.{Option, some, none}
 use lib.Dec.{eqb, ltb}
 use lib.ListN.{length, getD}
 use Rattle.sets.specs.Search.{first}
-use Rattle.sets.specs.declared.structure.Place.{Place}
-use Rattle.sets.specs.declared.structure.Place.the-variants.{At, Nowhere}
 use Rattle.sets.specs.Sets.{within}
 
 -- The place, from 0, of the first listed set that holds a; none if no listed set does.
@@ -17,11 +15,6 @@ holder sets a =
     let i = first (λ i. within a (getD sets i 0)) (length sets) 0 in
     let listed = cond (ltb i (length sets)) (some i) none in
     cond (eqb a 0) (some 0) listed
-
--- What the code's `Place` says.
-unfoldable pub place : Place → Option ℕ
-place (At i) = some i
-place Nowhere = none
 
 unfoldable pub isSome : Option ℕ → Bool
 isSome none = false

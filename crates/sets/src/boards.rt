@@ -1,7 +1,8 @@
 // Sets of boards as bytes: bit i means board i.
 ghost use mathlib.Core.Path.{_≡_};
-ghost use Prim.Native.Nat.{_≤_, min};
+ghost use Prim.Native.Nat.{min};
 ghost use Rattle.sets.specs.Sets.{member, within, boards, size};
+ghost use Rattle.sets.specs.Bounded.{Bounded};
 
 // Is board i in the set s?
 pub fn member(s: u8, i: u8) -> bool
@@ -32,7 +33,7 @@ pub fn all_boards(n: u8) -> u8
 
 // How many boards a set has.
 pub fn size(s: u8) -> u8
-    ensures { λ r. ⌜ (r ≡ size s) × (r ≤ 8) ⌝ }
+    ensures { λ r. ⌜ Bounded r (size s) 8 ⌝ }
 {
     let mut n = 0;
     let mut i = 0;

@@ -1,4 +1,2 @@
-// Sets of boards and adversary structures.
+// Sets of boards.
 pub mod boards;
-pub mod holders;
-pub mod structure;

@@ -1,30 +1,10 @@
 // Plays case 7 with cells and then with output one byte too short: writes both refusals and how many lent bytes changed.
+use counting::counting::count_others;
 use libc::STDOUT_FILENO;
-use printer::printing::report;
+use playing::playing::play;
 use protocol::limits::CELLS;
 use protocol::limits::OUTPUT;
-use sheet::playing::play;
-ghost use mathlib.Core.Path.{_≡_};
-ghost use mathlib.Core.Bool.{not};
-ghost use Prim.Native.Nat.{_≤_};
-ghost use lib.Dec.{eqb};
-ghost use lib.ListN.{length, getD};
-ghost use Rattle.sets.specs.Search.{count};
-
-// How many bytes are not x.
-fn count_others(bytes: &[u8], x: u8) -> usize
-    ensures { λ r. ⌜ (r ≡ count (λ i. not (eqb (getD (now (bytes .entry)) i 0) x)) (length (now (bytes .entry)))) × (r ≤ length (now (bytes .entry))) ⌝ }
-{
-    let mut others: usize = 0;
-    let mut i: usize = 0;
-    while i < bytes.len() {
-        if bytes[i] != x {
-            others += 1;
-        }
-        i += 1;
-    }
-    others
-}
+use reports::reporting::report;
 
 fn main() {
     let text = b"0410000005040102040801\n0101000105\n0101000205\n0101000307\n";

@@ -1,7 +1,7 @@
 -- One board more has acted: what the code has in hand.
 -- Assumes nothing.
 use Prim.Native.Nat.{ℕ, zero, suc, _+_, _-_, _*_}
-use mathlib.Core.Path.{_≡_, refl, ap, ap₂, _∙_}
+use mathlib.Core.Path.{_≡_, refl, ap, _∙_}
 use mathlib.Core.Bool.{true, false, cond}
 use mathlib.Core.List.{List, _++_}
 use native.Mathlib.Numerals.{add-one}
@@ -50,17 +50,17 @@ module _ (h : Head) (f : ℕ → Board → Board) (t : Stage) (i : ℕ) where
         ap (λ k. boardWith (getD recs i noRecord) (take k (drop (i * c) cells))) (let z : i * c + c - i * c ≡ c = omega arith in z)
         ∙ ap (λ k. boardWith (getD recs i noRecord) (take k (drop (i * k) cells))) size
 
-    left-is : (b : Board) → x ≡ b .rec → ys ≡ b .cells → left ≡ putBoard (h .plan .n) i b (record { recs = recs; cells = cells })
+    left-is : (b : Board) → boardWith x ys ≡ b → left ≡ putBoard (h .plan .n) i b (record { recs = recs; cells = cells })
     unfolding putBoard replacePart
-    left-is b ex ey =
+    left-is b e =
         ap (λ k. record { recs = set recs i x; cells = take (i * c) cells ++ (ys ++ drop k (drop (i * c) cells)) }) (let z : i * c + c - i * c ≡ c = omega arith in z)
         ∙ ap (λ k. record { recs = set recs i x; cells = take (i * c) cells ++ (ys ++ k) }) (drop-drop c (i * c) cells)
         ∙ ap (λ k. record { recs = set recs i x; cells = take (i * k) cells ++ (ys ++ drop (i * k + k) cells) }) size
-        ∙ ap₂ (λ u v. record { recs = set recs i u; cells = take (i * cellCount (h .plan .n)) cells ++ (v ++ drop (i * cellCount (h .plan .n) + cellCount (h .plan .n)) cells) }) ex ey
+        ∙ ap (λ y. putBoard (h .plan .n) i y (record { recs = recs; cells = cells })) e
 
     pub turn : _≡_ {A = Stage} (record { recs = recs; cells = cells }) (onStage h f i t) → keeps h i ≡ true
-        → x ≡ f i lent .rec → ys ≡ f i lent .cells → left ≡ onStage h f (i + 1) t
-    turn e k ex ey =
+        → boardWith x ys ≡ f i lent → left ≡ onStage h f (i + 1) t
+    turn e k acts =
         let b = f i (boardOn (h .plan .n) (record { recs = recs; cells = cells }) i) in
-        left-is b (ex ∙ ap (λ y. f i y .rec) lent-is) (ey ∙ ap (λ y. f i y .cells) lent-is)
+        left-is b (acts ∙ ap (f i) lent-is)
         ∙ turn-kept (record { recs = recs; cells = cells }) e k

@@ -33,7 +33,7 @@ noRecord = record {
   run = record { 0 = 0 };
   round = record { 0 = 0 };
   detected = 0;
-  taken = 0;
+  marks = 0;
   decided = false;
   decision = 0;
 }

@@ -2,11 +2,11 @@
 use beginning::beginning::begin;
 use closing::closing::close;
 use codec::value::Value;
+use levels::levels::cell_count;
 use plan::plan::Plan;
 use protocol::head::Head;
 use protocol::records::Record;
 use sets::boards::member;
-use tree::levels::cell_count;
 ghost use mathlib.Core.Path.{_≡_};
 ghost use Rattle.protocol.specs.Rounds.{boardWith};
 ghost use Rattle.stage.specs.Stage.{Roomy, keeps, acted, actAll};
@@ -31,7 +31,7 @@ pub fn is_keeper(head: Head, i: u8) -> bool
 
 // One board acts.
 fn act_one(plan: Plan, act: Act, i: u8, r: Record, cells: &mut [Value]) -> Record
-    ensures { λ x. ⌜ (x ≡ acted plan act i (boardWith r (now (cells .entry))) .rec) × (now (cells .exit) ≡ acted plan act i (boardWith r (now (cells .entry))) .cells) ⌝ }
+    ensures { λ x. ⌜ boardWith x (now (cells .exit)) ≡ acted plan act i (boardWith r (now (cells .entry))) ⌝ }
 {
     match act {
         Act::Begin => {
@@ -48,7 +48,7 @@ fn act_one(plan: Plan, act: Act, i: u8, r: Record, cells: &mut [Value]) -> Recor
 // Every board outside F that keeps cells acts, rising.
 pub fn act_all(head: Head, act: Act, records: [Record; 7], cells: &mut [Value]) -> [Record; 7]
     requires { ⌜ Roomy head (now cells) ⌝ }
-    ensures { λ r. ⌜ (r ≡ actAll head act (head .plan .n) (record { recs = records; cells = now (cells .entry) }) .recs) × (now (cells .exit) ≡ actAll head act (head .plan .n) (record { recs = records; cells = now (cells .entry) }) .cells) ⌝ }
+    ensures { λ r. ⌜ record { recs = r; cells = now (cells .exit) } ≡ actAll head act (head .plan .n) (record { recs = records; cells = now (cells .entry) }) ⌝ }
 {
     let plan = head.plan;
     let n = head.plan.n;
@@ -57,11 +57,11 @@ pub fn act_all(head: Head, act: Act, records: [Record; 7], cells: &mut [Value]) 
     let mut i: u8 = 0;
     while i < n {
         if is_keeper(head, i) {
-            let a = i as usize * size;
+            let place = i as usize;
+            let a = place * size;
             let e = a + size;
-            let r = all[i as usize];
-            let next = act_one(plan, act, i, r, &mut cells[a..e]);
-            all[i as usize] = next;
+            let r = all[place];
+            all[place] = act_one(plan, act, i, r, &mut cells[a..e]);
         }
         i += 1;
     }

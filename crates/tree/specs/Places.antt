@@ -25,7 +25,7 @@ levelStart n (suc k) = levelStart n k + levelSize n k
 unfoldable pub cellCount : ℕ → ℕ
 cellCount n = levelStart n (suc n)
 
--- 01 has levels and cells for n from 1 to 7: what a call answers for any n, 0 outside these.
+-- 01 has levels and cells for n from 1 to 7. The next three are a middle layer: what the code has for any n, 0 outside these.
 unfoldable pub sizeWithin : ℕ → ℕ → ℕ
 sizeWithin n k = cond (leb 1 n && leb n 7) (levelSize n k) 0
 
@@ -45,7 +45,7 @@ rank n [] = 0
 rank n (q ∷ []) = 0
 rank n (q ∷ (r ∷ α)) = rank n (r ∷ α) * (n - length (r ∷ α)) + ordinal q (r ∷ α)
 
--- How many boards below k are outside a set.
+-- The next two are a middle layer, `ordinal` and `rank` of a child by the set of a node's boards. How many boards below k are outside a set.
 unfoldable pub outsideBelow : ℕ → ℕ → ℕ
 outsideBelow s k = count (λ i. not (member i s)) k
 
@@ -54,6 +54,7 @@ outsideBelow s k = count (λ i. not (member i s)) k
 unfoldable pub childIndex : ℕ → ℕ → ℕ → ℕ → ℕ → ℕ
 childIndex n level index s q = index * (n - level) + outsideBelow s q
 
+-- The place of a label's cell. 01: "Cells stand by level, inside a level by label".
 unfoldable pub place : ℕ → Label → ℕ
 place n α = levelStart n (length α) + rank n α
 

@@ -1,4 +1,3 @@
-// Labels, levels and places of the tree.
-pub mod levels;
+// Labels of the tree, their places, and the places of children.
 pub mod nodes;
 pub mod outside;

@@ -1,4 +1,5 @@
--- What a node's children are worth, as a table of bytes by board. A middle layer.
+-- What a node's children are worth, as a table of bytes by board. A middle layer: `byCell` and `byResolving` of
+-- protocol/Detection are the definitions.
 use Prim.Native.Nat.{ℕ, zero, suc}
 use mathlib.Core.Bool.{cond}
 use mathlib.Core.List.{List}

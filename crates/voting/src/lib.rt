@@ -1,4 +1,2 @@
 // What a board concludes at one node from what the node's children are worth.
-pub mod explaining;
-pub mod values;
 pub mod voting;

@@ -1,14 +1,14 @@
 // Resolving a node from what its children are worth.
-use crate::values::tolerates;
 use codec::value::Value;
 use plan::plan::Plan;
 use sets::boards::member;
+use tables::asking::tolerates;
 ghost use mathlib.Core.Path.{_≡_};
 ghost use mathlib.Core.Bool.{not, _&&_};
 ghost use Prim.Native.Nat.{_≤_, _<_};
 ghost use lib.Dec.{ltb};
 ghost use Rattle.sets.specs.Sets.{member};
-ghost use Rattle.plan.specs.Tabled.{Tabled};
+ghost use Rattle.tables.specs.Tabled.{Tabled};
 ghost use Rattle.voting.specs.Tables.{at, agreeing, elected, voted};
 
 // The children worth v.

@@ -21,8 +21,9 @@ use Rattle.tree.proofs.Sizes.{size-past}
 use Rattle.protocol.specs.Nodes.{filter, internal, nodes, inner, carried}
 use Rattle.protocol.proofs.Few.{filter-append, filter-length}
 use Rattle.protocol.proofs.Nodes.{filter-inv, inner-inv, node-label}
-use Rattle.walk.specs.Walk.{code, below}
-use Rattle.walk.proofs.Codes.{Coded, label-coded}
+use Rattle.internal.specs.Numbers.{code}
+use Rattle.walk.specs.Walk.{below}
+use Rattle.internal.proofs.Codes.{Coded, label-coded}
 
 flat-append : (f : Label → List Label) (αs βs : List Label) → flatMap f (αs ++ βs) ≡ flatMap f αs ++ flatMap f βs
 unfolding flatMap

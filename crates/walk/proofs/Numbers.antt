@@ -14,11 +14,11 @@ use lib.Pow.{pow-lt, pow-pos, pow-add}
 use borrow.Author.Tests.{eq-eqb, ne-eqb, eqb-true, eqb-false, lt-ltb, ltb-false}
 use Rattle.sets.specs.Sets.{member, insert}
 use Rattle.sets.specs.Structure.{tolerated}
-use Rattle.sets.specs.Holders.{holderTable}
+use Rattle.holders.specs.Holders.{holderTable}
 use Rattle.sets.proofs.Tests.{cases}
 use Rattle.sets.proofs.Count.{count-in, count-out, count-zero}
 use Rattle.sets.proofs.Member.{member-high}
-use Rattle.sets.proofs.Held.{table-at, held-tolerated}
+use Rattle.holders.proofs.Held.{table-at, held-tolerated}
 use Rattle.plan.specs.declared.plan.Plan.{Plan}
 use Rattle.plan.specs.Listed.{listed}
 use Rattle.schedule.specs.Schedule.{rounds}
@@ -27,8 +27,10 @@ use Rattle.tree.specs.Places.{rank, ordinal}
 use Rattle.tree.proofs.Masks.{mask-member}
 use Rattle.tree.proofs.Ranks.{rank-child}
 use Rattle.protocol.specs.Nodes.{carried}
-use Rattle.walk.specs.Walk.{code, below, single, isOpen, barred, isInternal, kids, walked}
-use Rattle.walk.proofs.InternalNodes.{internal-is, without-both}
+use Rattle.internal.specs.Numbers.{code}
+use Rattle.walk.specs.Walk.{below, single, kids, walked}
+use Rattle.internal.specs.Tests.{isOpen, barred, isInternal}
+use Rattle.internal.proofs.InternalNodes.{internal-is, without-both}
 use Rattle.walk.proofs.Carried.{carries, below-carried}
 
 map-flat : (g : Label → ℕ) (f : Label → List Label) (αs : List Label) → map g (flatMap f αs) ≡ flatMap (λ α. map g (f α)) αs

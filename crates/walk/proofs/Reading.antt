@@ -10,9 +10,9 @@ use Rattle.tree.specs.Labels.{Label, mask, last}
 use Rattle.tree.specs.Places.{rank}
 use Rattle.tree.proofs.Entries.{getD-mem}
 use Rattle.protocol.specs.Nodes.{inner, carried}
-use Rattle.walk.specs.Walk.{code}
+use Rattle.internal.specs.Numbers.{code}
 use Rattle.walk.specs.Listing.{Lists}
-use Rattle.walk.proofs.Codes.{Coded}
+use Rattle.internal.proofs.Codes.{Coded}
 use Rattle.walk.proofs.Carried.{inner-coded, carried-coded}
 
 code-at : (n : ℕ) (αs : List Label) (j : ℕ) → getD (map (code n) αs) j 0 ≡ code n (getD αs j [])

@@ -15,7 +15,8 @@ use lib.Seq.{sets, length-sets}
 use Rattle.sets.specs.Sets.{member, insert}
 use Rattle.tree.proofs.Below.{most}
 use Rattle.tree.proofs.Descent.{insert-byte}
-use Rattle.walk.specs.Walk.{pack, kids, walked}
+use Rattle.internal.specs.Numbers.{pack}
+use Rattle.walk.specs.Walk.{kids, walked}
 use Rattle.walk.specs.Listing.{Written}
 
 sets-append : (xs ys l : List ℕ) (i : ℕ) → sets l i (xs ++ ys) ≡ sets (sets l i xs) (i + length xs) ys

@@ -9,21 +9,24 @@ use lib.Dec.{ltb}
 use lib.ListN.{length, drop, length-map}
 use lib.Seq.{sets-eq}
 use borrow.Author.Tests.{ltb-true}
-use Rattle.sets.specs.Holders.{holderTable}
-use Rattle.sets.proofs.Held.{table-length}
+use Rattle.holders.specs.Holders.{holderTable}
+use Rattle.holders.proofs.Held.{table-length}
 use Rattle.sets.proofs.Tests.{cases}
 use Rattle.plan.specs.declared.plan.Plan.{Plan}
 use Rattle.plan.specs.Calls.{judged}
 use Rattle.plan.specs.Listed.{listed}
-use Rattle.schedule.specs.Schedule.{isCut, rounds}
-use Rattle.schedule.proofs.Height.{height-le}
+use Rattle.heights.specs.Levels.{isCut}
+use Rattle.schedule.specs.Schedule.{rounds}
+use Rattle.heights.proofs.Heights.{height-le}
 use Rattle.schedule.proofs.Levels.{rounds-cut, rounds-full, cut-depth}
 use Rattle.tree.specs.Labels.{Label, mask}
 use Rattle.tree.proofs.Below.{all-at}
 use Rattle.tree.proofs.Descent.{root-byte}
 use Rattle.protocol.specs.Nodes.{inner, carried}
 use Rattle.protocol.proofs.Judgement.{plan-facts}
-use Rattle.walk.specs.Walk.{code, single, isOpen, barred, walked}
+use Rattle.internal.specs.Numbers.{code}
+use Rattle.walk.specs.Walk.{single, walked}
+use Rattle.internal.specs.Tests.{isOpen, barred}
 use Rattle.walk.specs.Listing.{Walkable, Lists, Stands, Written}
 use Rattle.walk.proofs.Carried.{carried-all}
 use Rattle.walk.proofs.Numbers.{root-mask, walked-carried}

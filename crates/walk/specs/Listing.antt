@@ -4,12 +4,12 @@ use mathlib.Core.Path.{_≡_}
 use mathlib.Core.List.{List, _++_, map}
 use lib.ListN.{length, drop}
 use lib.Seq.{sets}
-use Rattle.sets.specs.Holders.{holderTable}
+use Rattle.holders.specs.Holders.{holderTable}
 use Rattle.plan.specs.declared.plan.Plan.{Plan}
 use Rattle.plan.specs.Listed.{listed}
 use Rattle.schedule.specs.Schedule.{rounds}
 use Rattle.tree.specs.Labels.{Label}
-use Rattle.walk.specs.Walk.{code}
+use Rattle.internal.specs.Numbers.{code}
 
 -- A level of the plan whose nodes may be internal, the plan's table of holders, and room for the list.
 pub record Walkable (p : Plan) (level : ℕ) (αs : List Label) (holders nodes : List ℕ) : Type 0 where

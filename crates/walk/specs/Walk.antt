@@ -1,24 +1,12 @@
 -- The walk that lists the nodes of a level. A middle layer: `carried` and `inner` of crate protocol are the definitions, and
 -- proofs/Carried and proofs/Numbers show that the walk lists their nodes.
 use Prim.Native.Nat.{ℕ, zero, suc, _+_, _*_, _^_}
-use mathlib.Core.Bool.{Bool, not, _&&_, cond}
+use mathlib.Core.Bool.{Bool, cond}
 use mathlib.Core.List.{List, [], _∷_, _++_, flatMap}
-use lib.Bits.{bitAnd}
-use lib.Dec.{eqb, ltb}
-use lib.ListN.{getD}
+use lib.Dec.{ltb}
 use Rattle.sets.specs.Sets.{member, insert}
-use Rattle.sets.specs.Structure.{tolerated}
-use Rattle.plan.specs.declared.plan.Plan.{Plan}
-use Rattle.plan.specs.Listed.{listed}
-use Rattle.tree.specs.Labels.{Label, mask, last, children}
-use Rattle.tree.specs.Places.{rank}
-
--- A node as one number: its number in its level, its last board, and its boards.
-abbrev pub pack : ℕ → ℕ → ℕ → ℕ
-pack index last boards = (index * 8 + last) * 128 + boards
-
-unfoldable pub code : ℕ → Label → ℕ
-code n α = pack (rank n α) (last α) (mask α)
+use Rattle.tree.specs.Labels.{Label, children}
+use Rattle.internal.specs.Numbers.{pack}
 
 -- The labels `left` levels below α that are reached by labels that pass the test alone, in cell order.
 unfoldable pub below : (Label → Bool) → ℕ → ℕ → Label → List Label
@@ -30,19 +18,6 @@ below f n (suc left) α = cond (f α) (flatMap (below f n left) (children n α))
 -- The set of board q alone; empty if a byte has no such board.
 unfoldable pub single : ℕ → ℕ
 single q = cond (ltb q 8) (2 ^ q) 0
-
--- Is a set of boards held, by the table of holders, and without the boards of the set w?
-unfoldable pub isOpen : List ℕ → ℕ → ℕ → Bool
-isOpen holders w s = eqb (bitAnd s w) 0 && not (eqb (getD holders s 255) 255)
-
--- The boards that a node is without if it is internal to board i: none, nodes are internal to all boards alike.
-unfoldable pub barred : Plan → ℕ → ℕ
-barred p i = 0
-
--- Is a node above level R with the boards s internal to board i? `internal` of crate protocol is the definition, and `internal-is` in
--- proofs/InternalNodes shows that this is it.
-unfoldable pub isInternal : Plan → ℕ → ℕ → Bool
-isInternal p i s = eqb (bitAnd s (barred p i)) 0 && tolerated (listed p) s
 
 -- What f says of the children of a node with the boards s, by the boards c, c + 1, .., k in all; i is the number of the first.
 unfoldable pub kids : (ℕ → ℕ → ℕ → List ℕ) → ℕ → ℕ → ℕ → ℕ → List ℕ

@@ -1,12 +1,13 @@
 // The walk: the nodes of a level that are held and without some boards, in cell order.
-use crate::internal::barred_to;
-use crate::internal::is_open;
-use crate::node::node_of;
+use internal::internal::barred_to;
+use internal::internal::is_open;
+use internal::node::node_of;
 use plan::plan::Plan;
 use sets::boards::member;
 ghost use mathlib.Core.Path.{_≡_};
 ghost use Rattle.protocol.specs.Nodes.{inner, carried};
-ghost use Rattle.walk.specs.Walk.{single, isOpen, walked};
+ghost use Rattle.walk.specs.Walk.{single, walked};
+ghost use Rattle.internal.specs.Tests.{isOpen};
 ghost use Rattle.walk.specs.Listing.{Stands, Written, Walkable, Lists};
 
 // The set of board q alone; empty if a byte has no such board.

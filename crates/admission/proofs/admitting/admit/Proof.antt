@@ -7,7 +7,7 @@ use borrow.Author.Tests.{lt-ltb, le-ltb, eq-eqb, ne-eqb}
 use lib.ListN.{length, getD}
 use Rattle.sets.specs.Search.{any}
 use Rattle.sets.specs.Sets.{within, boards}
-use Rattle.admission.specs.Cover.{strays}
+use Rattle.admission.specs.Calls.{strays}
 use Rattle.refusals.specs.Outcome.{verdict, refusal}
 use Rattle.admission.specs.Calls.{admitting}
 use borrow.Author.Needs.{needs}

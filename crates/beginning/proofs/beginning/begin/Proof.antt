@@ -1,9 +1,11 @@
--- `begin` meets its contract: the three parts of what beginning leaves.
+-- `begin` meets its contract: what beginning leaves.
 -- Assumes nothing.
-use mathlib.Core.Path.{sym, ap, _∙_}
+use mathlib.Core.Path.{sym, ap, ap₂, _∙_}
 use borrow.Author.Needs.{needs}
-use Rattle.refusals.specs.Outcome.{Outcome, refusal, verdict}
+use mathlib.Core.List.{[]}
+use Rattle.refusals.specs.Outcome.{Outcome, taken, refusal, verdict}
 use Rattle.refusals.proofs.Outcomes.{refusal-number}
+use Rattle.protocol.specs.Rounds.{boardWith}
 use Rattle.beginning.proofs.Answers.{begin-refused, begin-taken, begin-ready}
 use Rattle.beginning.proofs.beginning.begin.Statement.{statement}
 use Rattle.beginning.proofs.beginning.begin.Tie as tie
@@ -23,8 +25,8 @@ returns c =
     let judged = told .before .before in
     let a = judged .before .before .before .args in
     let why = told .why .given in
-    let (x, y, z) = begin-refused a.plan a.board (a.cells .now) (refusal (why .0 .0)) (ap verdict (sym (why .1)) ∙ judged .judge-begin .ensures) (refusal-number (why .0 .0)) in
-    (x, c .void .ensures ∙ y, z)
+    ap (λ r. record { answer = refusal (why .0 .0); board = boardWith r (a.cells .now) }) (c .void .ensures)
+    ∙ begin-refused a.plan a.board (a.cells .now) (refusal (why .0 .0)) (ap verdict (sym (why .1)) ∙ judged .judge-begin .ensures) (refusal-number (why .0 .0))
 
 returns-2 : tie.Need-returns-2
 unfolding verdict
@@ -33,8 +35,8 @@ returns-2 c =
     let told = cleared .before .before in
     let judged = told .before .before in
     let a = judged .before .before .before .args in
-    let (x, y, z) = begin-taken a.plan a.board (a.cells .now) (ap verdict (sym (told .enum-told .given .1)) ∙ judged .judge-begin .ensures) in
-    (x, c .fresh .ensures ∙ y, cleared .clear .ensures ∙ z)
+    ap₂ (λ r cells. record { answer = taken []; board = boardWith r cells }) (c .fresh .ensures) (cleared .clear .ensures)
+    ∙ begin-taken a.plan a.board (a.cells .now) (ap verdict (sym (told .enum-told .given .1)) ∙ judged .judge-begin .ensures)
 
 pub begin-spec : {M : Type 1} → statement M
 begin-spec =

@@ -13,7 +13,7 @@ returns c =
     let first = later .before .before in
     let a = first .before .before .args in
     c .and-then2 .ensures
-    ∙ ap₂ andThen (first .judge .ensures) (c .before .and-then .ensures ∙ ap₂ andThen (later .before .judge-number .ensures) (later .judge-cells .ensures))
+    ∙ ap₂ andThen (first .judge .ensures) (c .before .and-then .ensures ∙ ap₂ andThen (later .before .judge-board .ensures) (later .judge-cells .ensures))
     ∙ begin-judged a.plan a.board (a.cells .now)
 
 pub judge-begin-spec : {M : Type 1} → statement M

@@ -1,6 +1,6 @@
--- `close` meets its contract: the three parts of what closing leaves.
+-- `close` meets its contract: what closing leaves.
 -- Assumes nothing.
-use mathlib.Core.Path.{sym, ap, _∙_}
+use mathlib.Core.Path.{sym, ap, ap₂, _∙_}
 use borrow.Author.Needs.{needs}
 use Rattle.refusals.specs.Outcome.{Outcome, taken, refusal, verdict}
 use Rattle.refusals.proofs.Outcomes.{refusal-number}
@@ -39,9 +39,9 @@ returns-2 c =
     let judged = told .before .before in
     let a = judged .before .before .before .args in
     let o : Board = boardWith a.r (a.cells .now) in
-    let (x, y, z) = close-taken o (ap verdict (sym (told .enum-told .given .1)) ∙ judged .judge-open .ensures) in
     let e = closed .close-round .ensures in
-    (c .answer-of .ensures ∙ ap (λ r. taken (closedValues r)) (e .0) ∙ x, e .0 ∙ y, e .1 ∙ z)
+    ap₂ (λ o x. record { answer = o; board = x }) (c .answer-of .ensures ∙ ap (λ (x : Board). taken (closedValues (x .rec))) e) e
+    ∙ close-taken o (ap verdict (sym (told .enum-told .given .1)) ∙ judged .judge-open .ensures)
 
 pub close-spec : {M : Type 1} → statement M
 close-spec =

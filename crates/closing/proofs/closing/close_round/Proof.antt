@@ -18,7 +18,7 @@ gather-round-requires c κs =
     let held = c .before .before in
     let e = held .before .before in
     let r = e .args .r in
-    (good-stands r (good-record r (e .pre .0)) (held .holders .result) (held .holders .ensures), e .pre .1)
+    (good-stands r (good-record r (e .pre .0)) (held .table-of .result) (held .table-of .ensures), e .pre .1)
 
 next-round-requires : tie.Need-next-round-requires
 next-round-requires c κs =
@@ -38,10 +38,8 @@ returns c =
     let a = held .before .before .args in
     let o : Board = boardWith a.r (a.cells .now) in
     let e = close-next o (omega (arith, ap (λ (k : Round). k .0) (more .before .rounds .ensures), more .if1 .taken)) in
-    let g = gone .gather-round .ensures in (
-      c .next-round .ensures ∙ ap (advanced a.r) (g .list-is) ∙ sym (ap (λ (x : Board). x .rec) e),
-      g .cells-are ∙ sym (ap (λ (x : Board). x .cells) e),
-    )
+    let g = gone .gather-round .ensures in
+    ap₂ boardWith (c .next-round .ensures ∙ ap (advanced a.r) (g .list-is)) (g .cells-are) ∙ sym e
 
 returns-2 : tie.Need-returns-2
 unfolding gather gathered convert
@@ -55,10 +53,7 @@ returns-2 c =
     let o : Board = boardWith a.r (a.cells .now) in
     let e = close-last o (omega (arith, ap (λ (k : Round). k .0) (last .before .rounds .ensures), last .if1 .left)) in
     let g = gone .gather-round .ensures in
-    let v = made .convert-round .ensures in (
-      v .0 ∙ ap₂ (λ d x. convert o (record { detected = d; cells = x }) .rec) (g .list-is) (g .cells-are) ∙ sym (ap (λ (x : Board). x .rec) e),
-      v .1 ∙ ap₂ (λ d x. convert o (record { detected = d; cells = x }) .cells) (g .list-is) (g .cells-are) ∙ sym (ap (λ (x : Board). x .cells) e),
-    )
+    made .convert-round .ensures ∙ ap₂ (λ d x. convert o (record { detected = d; cells = x })) (g .list-is) (g .cells-are) ∙ sym e
 
 pub close-round-spec : {M : Type 1} → statement M
 close-round-spec =

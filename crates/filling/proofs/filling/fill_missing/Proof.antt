@@ -10,7 +10,7 @@ use borrow.Author.Needs.{needs}
 use Rattle.sets.proofs.Tests.{not-t, not-f}
 use Rattle.protocol.specs.Nodes.{sent}
 use Rattle.protocol.specs.Rounds.{fill, fillMissing}
-use Rattle.filling.proofs.Filled.{missing-own, missing-taken, missing-stored}
+use Rattle.filling.proofs.Filled.{missing-own, missing-marked, missing-stored}
 use Rattle.filling.proofs.filling.fill_missing.Statement.{statement}
 use Rattle.filling.proofs.filling.fill_missing.Tie as tie
 
@@ -30,7 +30,7 @@ silence-requires c κs =
     let then1 = c .before .before .before in
     let at-loop = then1 .before .before in
     let e = at-loop .before .before .before in
-    (e .pre .0, e .pre .1, omega arith, omega (arith, e .pre .2, at-loop .loop .inv .1))
+    record { standing = e .pre .standing; later = e .pre .later; sender = omega arith; enough = omega (arith, e .pre .enough, at-loop .loop .inv .1) }
 
 loop-again : tie.Need-loop-again Inv-loop μ-loop
 loop-again c =
@@ -38,7 +38,7 @@ loop-again c =
     let e = at-loop .before .before .before in
     let l = at-loop .loop in
     let a = e .args in
-    let more = missing-stored (e .pre .0) a.taken l.q (omega arith) (a.cells .now) in
+    let more = missing-stored (e .pre .standing) a.marks l.q (omega arith) (a.cells .now) in
     ⊎-elim
     (λ w. (
       omega arith,
@@ -51,8 +51,8 @@ loop-again c =
       ap length (w .1) ∙ l .inv .1,
       w .1 ∙ l .inv .2
           ∙ sym (⊎-elim
-          (λ x. missing-taken (e .pre .0) a.taken l.q (omega arith) (a.cells .now) (sym (x .1 .ensures) ∙ not-f _ (x .2 .left)))
-          (λ x. missing-own (e .pre .0) a.taken l.q (omega arith) (a.cells .now) (x .left))
+          (λ x. missing-marked (e .pre .standing) a.marks l.q (omega arith) (a.cells .now) (sym (x .1 .ensures) ∙ not-f _ (x .2 .left)))
+          (λ x. missing-own (e .pre .standing) a.marks l.q (omega arith) (a.cells .now) (x .left))
           (w .0 .came)),
     ))
     (c .if1 .came)
@@ -63,7 +63,7 @@ returns c =
     let start = at-loop .before .before .before in
     let l = at-loop .loop in
     let a = start .args in
-    l .inv .2 ∙ ap (λ k. fillMissing a.plan a.board a.round a.taken k (a.cells .now)) (let z : l.q ≡ a.plan .n = omega arith in z)
+    l .inv .2 ∙ ap (λ k. fillMissing a.plan a.board a.round a.marks k (a.cells .now)) (let z : l.q ≡ a.plan .n = omega arith in z)
 
 pub fill-missing-spec : {M : Type 1} → statement M
 fill-missing-spec =

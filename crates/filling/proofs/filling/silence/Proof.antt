@@ -12,7 +12,7 @@ carried-nodes-requires : tie.Need-carried-nodes-requires
 carried-nodes-requires c κs =
     let at-shared-slice-known = c .before .before .before in
     let e = at-shared-slice-known .before in
-    carried-walkable (e .pre .0) (e .pre .1) (e .args .q) (e .pre .2) _ refl
+    carried-walkable (e .pre .standing) (e .pre .later) (e .args .q) (e .pre .sender) _ refl
 
 part-store-at-end : tie.Need-part-store-at-end
 part-store-at-end c =
@@ -21,7 +21,7 @@ part-store-at-end c =
     let at-shared-slice-known = at-nodes .before .before .before in
     let e = at-shared-slice-known .before in
     let x = at-carried-nodes .carried-nodes in
-    front-fits (e .pre .0) (e .pre .1) (e .args .q) (x .ensures) (e .pre .2) (x .kept .1 .1 .1 .1 .1 .0)
+    front-fits (e .pre .standing) (e .pre .later) (e .args .q) (x .ensures) (e .pre .sender) (x .kept .1 .1 .1 .1 .1 .0)
 
 store-at-requires : tie.Need-store-at-requires
 store-at-requires c κs =
@@ -30,12 +30,13 @@ store-at-requires c κs =
     let at-nodes = at-carried-nodes .before in
     let at-shared-slice-known = at-nodes .before .before .before in
     let e = at-shared-slice-known .before in
-    let l = at-carried-nodes .carried-nodes .ensures in (
-      front-nodes (e .pre .0) (e .pre .1) (e .args .q) l,
-      front-without (e .pre .0) (e .pre .1) (e .args .q) l,
-      e .pre .2,
-      e .pre .3,
-    )
+    let l = at-carried-nodes .carried-nodes .ensures in
+    record {
+      are-nodes = front-nodes (e .pre .standing) (e .pre .later) (e .args .q) l;
+      without = front-without (e .pre .standing) (e .pre .later) (e .args .q) l;
+      sender = e .pre .sender;
+      enough = e .pre .enough;
+    }
 
 returns : tie.Need-returns
 returns c =
@@ -49,7 +50,7 @@ returns c =
     let l = at-carried-nodes .carried-nodes .ensures in
     at-store-at .store-at .ensures
     ∙ ap₂ (λ αs vs. fill (e .args .plan) (e .args .q) αs vs (e .args .cells .now))
-    (front-labels (e .pre .0) (e .pre .1) (e .args .q) l ∙ sym (sent-carried (e .pre .0) (e .pre .1) (e .args .q))) decode-none
+    (front-labels (e .pre .standing) (e .pre .later) (e .args .q) l ∙ sym (sent-carried (e .pre .standing) (e .pre .later) (e .args .q))) decode-none
 
 pub silence-spec : {M : Type 1} → statement M
 silence-spec =

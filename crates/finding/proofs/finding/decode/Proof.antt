@@ -2,6 +2,7 @@
 -- Assumes nothing.
 use Prim.Native.Nat.{_-_, _≤_}
 use mathlib.Core.Path.{_≡_, ap, _∙_}
+use mathlib.Core.Option.{some}
 use native.Mathlib.Omega.{arith}
 use lib.ListN.{length, set}
 use borrow.Author.Needs.{needs}
@@ -53,7 +54,7 @@ returns c =
     let l = c .before .loop in
     let count = at-smaller .smaller in
     let e = (let z : l.i ≡ count .result = omega arith in z) ∙ count .ensures in
-    (e, l .inv .1 ∙ ap (decoded (a.digits .now) (a.values .now)) e ∙ decoded-all (a.digits .now) (a.values .now))
+    ap (λ b. record { count = some l.i; buffer = b }) (l .inv .1) ∙ decoded-all (a.digits .now) (a.values .now) l.i e
 
 pub decode-spec : {M : Type 1} → statement M
 decode-spec =

@@ -51,7 +51,7 @@ returns-2 c =
     let f = at-find-line .find-line in
     let d = at-decode .decode in
     read-found (findFrame a.run a.round a.sender a.receiver (framesFrom (a.text .now) a.from)) (a.text .now) (a.values .now) (f .result) (f .ensures) (omega arith)
-    (at-line-end .line-end .result) (d .result) _ (d .last .1 .0) (at-line-end .line-end .ensures) (at-values-of .values-of .ensures) (d .ensures .0) (d .ensures .1)
+    (at-line-end .line-end .result) _ _ (at-line-end .line-end .ensures) (at-values-of .values-of .ensures) (d .ensures)
 
 pub read-frame-spec : {M : Type 1} → statement M
 read-frame-spec =

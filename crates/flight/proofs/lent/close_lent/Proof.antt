@@ -42,7 +42,7 @@ use denote.Triple.Spec.{Meets, tripleOf}
 use denote.Triple.Table.{entered, cited}
 use denote.Triple.Walked.{says, Stays, stay-ref, gave-slice, walkOf, goes-ref, goes-gave-slice, Walks, ends-at, walked, walk-meets}
 use Rattle.protocol.specs.Answers.{closingSays}
-use Rattle.protocol.specs.Calls.{closing}
+use Rattle.protocol.specs.Calls.{Result, closing}
 use Rattle.protocol.specs.declared.records.Record.{Record}
 use Rattle.protocol.specs.declared.answers.Closing.{Closing}
 use Rattle.protocol.specs.declared.answers.Closed.{Closed}
@@ -87,15 +87,15 @@ holds-answer out vs is = Fields.owed Out.the-type Out′.the-laws out vs is .0
 
 -- What `close` ensures of what it returns and of the cells that it leaves, at the record h and the cells ys.
 abbrev Ensured : Record → List ℕ → Closed → List ℕ → Type 0
-Ensured h ys out zs = (closingSays (out .answer) ≡ closing (boardWith h ys) .answer) × (out .rec ≡ closing (boardWith h ys) .board .rec) × (zs ≡ closing (boardWith h ys) .board .cells)
+Ensured h ys out zs = record { answer = closingSays (out .answer); board = boardWith (out .rec) zs } ≡ closing (boardWith h ys)
 
 -- What is promised once its record is stored.
 abbrev Promised : Record → List ℕ → Closed → List ℕ → Type 0
-Promised h ys out zs = (closingSays (out .answer) ≡ lentClosing h ys .answer) × (out .rec ≡ lentClosing h ys .rec) × (zs ≡ lentClosing h ys .cells)
+Promised h ys out zs = record { answer = closingSays (out .answer); rec = out .rec; cells = zs } ≡ lentClosing h ys
 
 promised : (h : Record) (ys : List ℕ) (out : Closed) (zs : List ℕ) → Ensured h ys out zs → Promised h ys out zs
 unfolding lentClosing
-promised h ys out zs e = e
+promised h ys out zs e = ap (λ (x : Result). record { answer = x .answer; rec = x .board .rec; cells = x .board .cells }) e
 
 -- The contract of `close`.
 abbrev ByValue : {M : Type 1} (𝓤 : URA M) (H : Heap 𝓤) (A : Atoms 𝓤) (mem : Memory → SProp 𝓤) (run : Routine → Fun 𝓤) → Contract 𝓤

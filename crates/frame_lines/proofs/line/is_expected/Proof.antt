@@ -31,7 +31,7 @@ is-due-requires c κs =
     let asks = else1 .before in
     let e = asks .before in
     receiver-stands (e .args .plan) (e .args .run) (e .args .round) (e .args .sender) (e .args .receiver) (e .pre) (sym (asks .has-round .ensures) ∙ not-f _ (else1 .if1 .left))
-    (else2 .if2 .left) (c .before .before .if3 .left) (c .before .holders .result) (c .before .holders .ensures)
+    (else2 .if2 .left) (c .before .before .if3 .left) (c .before .table-of .result) (c .before .table-of .ensures)
 
 returns-4 : tie.Need-returns-4
 returns-4 c =

@@ -45,7 +45,7 @@ own c =
     let at-level-start = at .before in
     let at-shared-slice-known = at-level-start .before .before .before in
     let e = at-shared-slice-known .before in
-    let spot = own-cell (e .pre .0) (at .loop .i) (omega arith) (at-level-start .level-start .result) (length (e .args .cells .now)) (at-level-start .level-start .ensures) (e .pre .1) in
+    let spot = own-cell (e .pre .are-nodes) (at .loop .i) (omega arith) (at-level-start .level-start .result) (length (e .args .cells .now)) (at-level-start .level-start .ensures) (e .pre .enough) in
     let z = ap (λ x. at-level-start .level-start .result + x) (c .index-of .ensures) in
     (z ∙ spot .0, omega (arith, z, spot .1))
 
@@ -62,7 +62,7 @@ put-value-requires c κs =
     let at-level-start = at .before in
     let at-shared-slice-known = at-level-start .before .before .before in
     let e = at-shared-slice-known .before in
-    omega (arith, at .loop .inv .1, e .pre .2)
+    omega (arith, at .loop .inv .1, e .pre .room)
 
 loop-again : tie.Need-loop-again Inv-loop μ-loop
 loop-again c =

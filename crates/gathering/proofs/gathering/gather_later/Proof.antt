@@ -4,7 +4,7 @@ use Prim.Native.Nat.{_-_}
 use mathlib.Core.Path.{ap, _∙_}
 use borrow.Author.Needs.{needs}
 use Rattle.protocol.specs.Nodes.{inner}
-use Rattle.protocol.specs.Detection.{detectAllG}
+use Rattle.protocol.specs.Detection.{Scan, detectAllG}
 use Rattle.protocol.specs.Rounds.{copyOwn}
 use Rattle.gathering.specs.Gathered.{gathered}
 use Rattle.gathering.proofs.gathering.gather_later.Statement.{statement}
@@ -21,11 +21,8 @@ returns c =
     let known = filled .before .before in
     let a = known .before .before .args in
     let e = copied .copy-own .ensures ∙ ap (copyOwn a.plan a.board a.round) (filled .fill-missing .ensures) in
-    let d = found .detect-cells .ensures in
-    record {
-      list-is = d .0 ∙ ap (λ x. detectAllG a.plan a.board a.run a.round (inner a.plan a.board (a.round .0 - 1)) (record { detected = a.list; cells = x }) .detected) e;
-      cells-are = d .1 ∙ ap (λ x. detectAllG a.plan a.board a.run a.round (inner a.plan a.board (a.round .0 - 1)) (record { detected = a.list; cells = x }) .cells) e;
-    }
+    let d = found .detect-cells .ensures ∙ ap (λ x. detectAllG a.plan a.board a.run a.round (inner a.plan a.board (a.round .0 - 1)) (record { detected = a.list; cells = x })) e in
+    record { list-is = ap (λ (s : Scan). s .detected) d; cells-are = ap (λ (s : Scan). s .cells) d }
 
 pub gather-later-spec : {M : Type 1} → statement M
 gather-later-spec =

@@ -7,7 +7,9 @@ use borrow.Author.Needs.{needs}
 use Rattle.refusals.specs.Outcome.{refused, refusal, verdict, andThen}
 use Rattle.protocol.specs.Sheet.{judgeHead}
 use Rattle.hex.proofs.Bytes.{all}
-use Rattle.heads.proofs.Heads.{head-wrong, head-judged, head-made, slots-part}
+use Rattle.plan.specs.Calls.{Plans}
+use Rattle.heads.proofs.Heads.{head-wrong, head-judged, head-made}
+use Rattle.fields.proofs.Slots.{slots-part}
 use Rattle.heads.proofs.head.read_head.Statement.{statement}
 use Rattle.heads.proofs.head.read_head.Tie as tie
 
@@ -40,12 +42,12 @@ returns-2 c =
     record {
       judges =
           c .and-then2 .ensures
-          ∙ ap₂ andThen (planned .new .ensures .0) (c .before .and-then .ensures ∙ ap₂ andThen (spanned .judge-word .ensures) (borne .judge-faulty .ensures))
+          ∙ ap₂ andThen (ap (λ (x : Plans). x .answer) (planned .new .ensures)) (c .before .and-then .ensures ∙ ap₂ andThen (spanned .judge-word .ensures) (borne .judge-faulty .ensures))
           ∙ head-judged line _ _ _ _ _ _ (numbered .byte-at2 .ensures) (settled .settings-of .ensures) (worded .number-at .ensures) (counted .byte-at .ensures)
           (read .byte-at3 .ensures) sets (sized .if1 .left);
       gives =
           head-made line _ _ _ _ _ _ _ (numbered .byte-at2 .ensures) (settled .settings-of .ensures) (worded .number-at .ensures) (counted .byte-at .ensures)
-          (read .byte-at3 .ensures) sets (planned .new .ensures .1);
+          (read .byte-at3 .ensures) sets (ap (λ (x : Plans). x .plan) (planned .new .ensures));
     }
 
 pub read-head-spec : {M : Type 1} → statement M

@@ -20,12 +20,12 @@ listing c =
 marking : (c : tie.After-within2)
     → let first = c .before in
     let held = first .before .before .before in
-    let r = held .before .args .r in c .within2 .result ≡ within (r .taken) (boards (r .plan .n))
+    let r = held .before .args .r in c .within2 .result ≡ within (r .marks) (boards (r .plan .n))
 marking c =
     let first = c .before in
     let held = first .before .before .before in
     let e = held .before in
-    c .within2 .ensures ∙ ap (within (e .args .r .taken)) (all-below (e .args .r .plan .n) _ (e .pre) (held .all-boards .ensures))
+    c .within2 .ensures ∙ ap (within (e .args .r .marks)) (all-below (e .args .r .plan .n) _ (e .pre) (held .all-boards .ensures))
 
 returns : tie.Need-returns
 unfolding goodMarks

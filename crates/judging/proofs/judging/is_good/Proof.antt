@@ -21,7 +21,7 @@ returns-2 c =
     let first = c .before .before .before in
     let planned = sym (first .before .is-accepted .ensures ∙ ap isTaken (first .before .before .judge .ensures)) ∙ not-f _ (first .if1 .left) in
     let r = first .before .before .before .args .r in
-    let numbered = sym (c .before .is-accepted2 .ensures ∙ ap isTaken (c .before .before .judge-number .ensures)) ∙ not-t _ (c .if2 .taken) in
+    let numbered = sym (c .before .is-accepted2 .ensures ∙ ap isTaken (c .before .before .judge-board .ensures)) ∙ not-t _ (c .if2 .taken) in
     rw (planned, sym (board-grounds r) ∙ numbered) refl
 
 returns-3 : tie.Need-returns-3
@@ -30,7 +30,7 @@ returns-3 c =
     let second = c .before .before in
     let first = second .before .before .before in
     let planned = sym (first .before .is-accepted .ensures ∙ ap isTaken (first .before .before .judge .ensures)) ∙ not-f _ (first .if1 .left) in
-    let numbered = sym (second .before .is-accepted2 .ensures ∙ ap isTaken (second .before .before .judge-number .ensures)) ∙ not-f _ (second .if2 .left) in
+    let numbered = sym (second .before .is-accepted2 .ensures ∙ ap isTaken (second .before .before .judge-board .ensures)) ∙ not-f _ (second .if2 .left) in
     rw (planned, sym (board-grounds (first .before .before .before .args .r)) ∙ numbered, sym (c .before .has-round .ensures) ∙ not-t _ (c .if3 .taken)) refl
 
 has-good-fields-requires : tie.Need-has-good-fields-requires
@@ -48,7 +48,7 @@ returns-4 c =
     let second = third .before .before in
     let first = second .before .before .before in
     let planned = sym (first .before .is-accepted .ensures ∙ ap isTaken (first .before .before .judge .ensures)) ∙ not-f _ (first .if1 .left) in
-    let numbered = sym (second .before .is-accepted2 .ensures ∙ ap isTaken (second .before .before .judge-number .ensures)) ∙ not-f _ (second .if2 .left) in
+    let numbered = sym (second .before .is-accepted2 .ensures ∙ ap isTaken (second .before .before .judge-board .ensures)) ∙ not-f _ (second .if2 .left) in
     rw (planned, sym (board-grounds (first .before .before .before .args .r)) ∙ numbered, sym (third .before .has-round .ensures) ∙ not-f _ (third .if3 .left)) (c .has-good-fields .ensures)
 
 pub is-good-spec : {M : Type 1} → statement M

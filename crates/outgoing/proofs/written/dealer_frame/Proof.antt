@@ -18,7 +18,7 @@ returns c =
     let a = start .args in
     let v = c .before .v .given .0 .0 in
     let e = ap dealtSays (sym (c .before .v .given .1)) ∙ at-deal .deal .ensures in
-    (omega arith, take-suc-set (a.frame .now) 0 v (start .pre) ∙ dealt-taken a.head v e)
+    record { fits = omega arith; front = take-suc-set (a.frame .now) 0 v (start .pre) ∙ dealt-taken a.head v e }
 
 returns-2 : tie.Need-returns-2
 unfolding dealtSays
@@ -27,7 +27,7 @@ returns-2 c =
     let start = at-deal .before .before .before in
     let a = start .args in
     let e = ap dealtSays (sym (c .enum-told .given .1)) ∙ at-deal .deal .ensures in
-    (omega arith, dealt-refused a.head (λ z. refusal-number (c .enum-told .given .0 .0) (ap (λ x. x .number) e ∙ z)))
+    record { fits = omega arith; front = dealt-refused a.head (λ z. refusal-number (c .enum-told .given .0 .0) (ap (λ x. x .number) e ∙ z)) }
 
 pub dealer-frame-spec : {M : Type 1} → statement M
 dealer-frame-spec =

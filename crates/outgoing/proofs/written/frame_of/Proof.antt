@@ -8,7 +8,9 @@ use Rattle.refusals.proofs.Outcomes.{refusal-number}
 use Rattle.protocol.specs.Limits.{frameRoom}
 use Rattle.protocol.specs.Answers.{sentSays}
 use Rattle.protocol.specs.Rounds.{boardWith, Board}
-use Rattle.outgoing.proofs.Sender.{sending-fits, from-dealer, from-sender, from-nobody}
+use Rattle.protocol.specs.Calls.{Output}
+use Rattle.protocol.proofs.Taken.{sending-gives}
+use Rattle.outgoing.proofs.Sender.{from-dealer, from-sender, from-nobody}
 use borrow.Author.Needs.{needs}
 use Rattle.outgoing.proofs.written.frame_of.Statement.{statement}
 use Rattle.outgoing.proofs.written.frame_of.Tie as tie
@@ -26,7 +28,7 @@ returns c =
     let start = then1 .before .before .before in
     let a = start .args in
     let d = at-dealer-frame .dealer-frame in
-    (omega (arith, d .ensures .0), d .ensures .1 ∙ from-dealer a.head a.q (boardWith a.r (a.cells .now)) (then1 .if1 .taken))
+    record { fits = omega (arith, d .ensures .fits); front = d .ensures .front ∙ from-dealer a.head a.q (boardWith a.r (a.cells .now)) (then1 .if1 .taken) }
 
 returns-2 : tie.Need-returns-2
 unfolding sentSays
@@ -38,11 +40,14 @@ returns-2 c =
     let s = else1 .before .before .before in
     let a = s .args in
     let k = at-k .k .given .0 .0 in
-    let d = at-send .send in
+    let d = at-send .send .ensures in
     let b : Board = boardWith a.r (a.cells .now) in
-    let e = ap sentSays (sym (at-k .k .given .1)) ∙ d .ensures .0 in
+    let e = ap sentSays (sym (at-k .k .given .1)) ∙ ap (λ (x : Output). x .answer) d in
     let size = ap length (s .pre) ∙ length-replicate {A = ℕ} frameRoom 0 in
-    (omega (arith, size, sending-fits b (a.frame .now) k (sym e)), ap (take k) (d .ensures .1) ∙ from-sender a.head a.q b k (a.frame .now) (else1 .if1 .left) (s .pre) e)
+    record {
+      fits = omega (arith, size, sending-gives b (a.frame .now) k (sym e) .fits);
+      front = ap (λ (x : Output). take k (x .out)) d ∙ from-sender a.head a.q b k (a.frame .now) (else1 .if1 .left) (s .pre) e;
+    }
 
 returns-3 : tie.Need-returns-3
 unfolding sentSays
@@ -52,10 +57,13 @@ returns-3 c =
     let else1 = at-send .before .before in
     let s = else1 .before .before .before in
     let a = s .args in
-    let d = at-send .send in
+    let d = at-send .send .ensures in
     let b : Board = boardWith a.r (a.cells .now) in
-    let e = ap sentSays (sym (c .enum-told .given .1)) ∙ d .ensures .0 in
-    (omega arith, from-nobody a.head a.q b (a.frame .now) (else1 .if1 .left) (s .pre) (λ z. refusal-number (c .enum-told .given .0 .0) (ap (λ x. x .number) e ∙ z)))
+    let e = ap sentSays (sym (c .enum-told .given .1)) ∙ ap (λ (x : Output). x .answer) d in
+    record {
+      fits = omega arith;
+      front = from-nobody a.head a.q b (a.frame .now) (else1 .if1 .left) (s .pre) (λ z. refusal-number (c .enum-told .given .0 .0) (ap (λ x. x .number) e ∙ z));
+    }
 
 pub frame-of-spec : {M : Type 1} → statement M
 frame-of-spec =

@@ -3,28 +3,31 @@
 use mathlib.Core.Path.{sym, ap, _∙_}
 use native.Mathlib.Omega.{arith}
 use borrow.Author.Needs.{needs}
-use Rattle.sets.proofs.Tests.{clash}
+use Rattle.stage.specs.Stage.{Stage, boardOn}
 use Rattle.stage.proofs.Room.{count-is, part-inside}
 use Rattle.outgoing.specs.Outgoing.{frameFrom}
-use Rattle.outgoing.proofs.Sender.{board-lent}
+use Rattle.outgoing.proofs.Sender.{board-lent, none-faulty, frame-healthy}
 use Rattle.outgoing.proofs.written.sender_frame.Statement.{statement}
 use Rattle.outgoing.proofs.written.sender_frame.Tie as tie
 
 returns : tie.Need-returns
-returns c = (omega arith, λ x. clash (sym (c .before .member .ensures) ∙ c .if1 .taken) x)
+returns c =
+    let asked = c .before in
+    let a = asked .before .before .before .args in
+    record { fits = omega arith; front = none-faulty a.head a.q _ (sym (asked .member .ensures) ∙ c .if1 .taken) }
 
 mul-a : tie.Need-mul-a
 mul-a c =
     let at-member = c .before .before in
     let start = at-member .before .before .before in
-    let inside = part-inside (start .args .head) (start .args .cells .now) (start .pre .0) (start .args .q) (c .cell-count .result) (c .cell-count .ensures) (start .pre .1) in
+    let inside = part-inside (start .args .head) (start .args .cells .now) (start .pre .roomy) (start .args .q) (c .cell-count .result) (c .cell-count .ensures) (start .pre .sender) in
     record { fits = omega (arith, inside) }
 
 add-e : tie.Need-add-e
 add-e c =
     let at-member = c .before .before in
     let start = at-member .before .before .before in
-    let inside = part-inside (start .args .head) (start .args .cells .now) (start .pre .0) (start .args .q) (c .cell-count .result) (c .cell-count .ensures) (start .pre .1) in
+    let inside = part-inside (start .args .head) (start .args .cells .now) (start .pre .roomy) (start .args .q) (c .cell-count .result) (c .cell-count .ensures) (start .pre .sender) in
     record { fits = omega (arith, inside) }
 
 part-frame-of-end : tie.Need-part-frame-of-end
@@ -33,7 +36,7 @@ part-frame-of-end c =
     let at-member = counted .before .before in
     let start = at-member .before .before .before in
     let size = counted .cell-count in
-    omega (arith, part-inside (start .args .head) (start .args .cells .now) (start .pre .0) (start .args .q) (size .result) (size .ensures) (start .pre .1))
+    omega (arith, part-inside (start .args .head) (start .args .cells .now) (start .pre .roomy) (start .args .q) (size .result) (size .ensures) (start .pre .sender))
 
 returns-2 : tie.Need-returns-2
 returns-2 c =
@@ -44,9 +47,15 @@ returns-2 c =
     let start = at-member .before .before .before in
     let a = start .args in
     let size = counted .cell-count in
-    let is-size = count-is a.head (a.cells .now) (start .pre .0) a.q (size .result) (size .ensures) (start .pre .1) in
+    let is-size = count-is a.head (a.cells .now) (start .pre .roomy) a.q (size .result) (size .ensures) (start .pre .sender) in
     let frame = framed .frame-of .ensures in
-    (frame .0, λ _. frame .1 ∙ ap (frameFrom a.head a.q) (board-lent a.head a.q (record { recs = a.t3; cells = a.cells .now }) (size .result) is-size))
+    let st : Stage = record { recs = a.t3; cells = a.cells .now } in
+    let healthy = sym (at-member .member .ensures) ∙ counted .before .if1 .left in
+    record {
+      fits = frame .fits;
+      front = frame .front ∙ ap (frameFrom a.head a.q) (board-lent a.head a.q st (size .result) is-size)
+          ∙ sym (frame-healthy a.head a.q (boardOn (a.head .plan .n) st a.q) healthy);
+    }
 
 pub sender-frame-spec : {M : Type 1} → statement M
 sender-frame-spec =

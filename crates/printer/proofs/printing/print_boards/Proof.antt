@@ -1,18 +1,17 @@
 -- `print_boards` meets its contract: the lines of the boards below i.
 -- Assumes nothing.
 use Prim.Native.Nat.{_-_, _≤_}
-use mathlib.Core.Path.{_≡_, refl, sym, ap, _∙_}
+use mathlib.Core.Path.{_≡_, refl, sym, ap, ap₂, _∙_}
 use mathlib.Core.Logic.{⊎-elim}
 use mathlib.Core.Bool.{true, false}
-use mathlib.Core.List.{_++_}
 use native.Mathlib.Omega.{arith}
-use lib.ListN.{length, drop}
+use lib.ListN.{length}
 use lib.Seq.{sets, length-sets}
 use borrow.Author.Needs.{needs}
 use Rattle.sets.specs.Sets.{member}
 use Rattle.sets.proofs.Tests.{not-t, not-f}
 use Rattle.protocol.specs.Playing.{printBoards}
-use Rattle.printer.specs.Printed.{boardsOf, boardLines}
+use Rattle.printer.specs.Printed.{boardsOf, boardLines, atFront}
 use Rattle.printer.proofs.Stores.{stores-first}
 use Rattle.printer.proofs.BoardLines.{decision-at, detected-at, line-healthy, one-more, none-more, lines-none, print-short, many-boards, short-output, all-lines}
 use Rattle.printer.proofs.printing.print_boards.Statement.{statement}
@@ -102,10 +101,10 @@ returns-3 c =
     let l = at-loop .loop in
     let text = printBoards a.head (boardsOf a.t2) 0 l.i in
     let e : text ≡ boardLines a.head a.t2 (a.out .now) =
-    ap (printBoards a.head (boardsOf a.t2) 0) (let z : l.i ≡ a.head .plan .n = omega arith in z) ∙ sym (all-lines a.head a.t2 (a.out .now) (omega arith) (omega arith)) in (
-      l .inv .1 ∙ ap length e,
-      l .inv .2 ∙ stores-first (a.out .now) text (omega (arith, print-short a.head (boardsOf a.t2) l.i)) ∙ ap (λ t. t ++ drop (length t) (a.out .now)) e,
-    )
+    ap (printBoards a.head (boardsOf a.t2) 0) (let z : l.i ≡ a.head .plan .n = omega arith in z) ∙ sym (all-lines a.head a.t2 (a.out .now) (omega arith) (omega arith)) in
+    ap₂ (λ k o. record { count = k; out = o }) (l .inv .1)
+    (l .inv .2 ∙ stores-first (a.out .now) text (omega (arith, print-short a.head (boardsOf a.t2) l.i)))
+    ∙ ap (λ t. atFront t (a.out .now)) e
 
 pub print-boards-spec : {M : Type 1} → statement M
 print-boards-spec =

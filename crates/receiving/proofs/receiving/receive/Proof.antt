@@ -1,4 +1,4 @@
--- `receive` meets its contract: the three parts of what handing in leaves.
+-- `receive` meets its contract: what handing in leaves.
 -- Assumes nothing.
 use mathlib.Core.Path.{sym, ap, _∙_}
 use borrow.Author.Needs.{needs}
@@ -6,7 +6,7 @@ use Rattle.refusals.specs.Outcome.{Outcome, refusal, verdict}
 use Rattle.refusals.proofs.Outcomes.{refusal-number}
 use Rattle.protocol.specs.Rounds.{boardWith, receive}
 use Rattle.frames.proofs.Standing.{open-stands}
-use Rattle.receiving.proofs.Taking.{receive-closed, receive-refused, receive-taken, taken-small}
+use Rattle.receiving.proofs.Answers.{receive-closed, receive-refused, receive-taken, taken-small}
 use Rattle.receiving.proofs.receiving.receive.Statement.{statement}
 use Rattle.receiving.proofs.receiving.receive.Tie as tie
 
@@ -66,10 +66,9 @@ returns-3 c =
     let judged = told .before .before in
     let called = judged .before .before in
     let a = called .before .before .args in
-    let (x, y, z) = receive-taken (boardWith a.r (a.cells .now)) a.sender (a.frame .now)
+    receive-taken (boardWith a.r (a.cells .now)) a.sender (a.frame .now)
     (ap (λ (o : Outcome). o .number) (sym (ap verdict (sym (told .enum-told .given .1)) ∙ judged .judge-open .ensures)))
-    (verdict (stored .take .result)) _ (stored .take .ensures) (ap verdict (new .enum-told2 .given .1)) in
-    (x, c .marked .ensures ∙ y, z)
+    (verdict (stored .take .result)) _ (stored .take .ensures) (ap verdict (new .enum-told2 .given .1)) (c .marked .result) (c .marked .ensures)
 
 pub receive-spec : {M : Type 1} → statement M
 receive-spec =

@@ -23,7 +23,7 @@ use Rattle.resolving.proofs.resolving.resolve_node.Kinds as kinds
 use Rattle.resolving.proofs.resolving.resolve_node.Reads as self
 use Rattle.resolving.proofs.resolving.settle_leaf.Reads as settle-leaf-reads
 use Rattle.sets.proofs.boards.member.Reads as member-reads
-use Rattle.tree.proofs.levels.level_size.Reads as level-size-reads
+use Rattle.levels.proofs.levels.level_size.Reads as level-size-reads
 use Rattle.voting.proofs.voting.vote.Reads as vote-reads
 
 abbrev μ-resolve-node : Measures 2 kinds.ps ℕ

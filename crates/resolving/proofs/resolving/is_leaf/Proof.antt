@@ -5,7 +5,7 @@ use mathlib.Core.Bool.{not, _&&_}
 use native.Mathlib.Omega.{arith}
 use borrow.Author.Needs.{needs}
 use borrow.Author.Tests.{lt-ltb, le-ltb}
-use Rattle.walk.specs.Walk.{isInternal}
+use Rattle.internal.specs.Tests.{isInternal}
 use Rattle.resolving.proofs.resolving.is_leaf.Statement.{statement}
 use Rattle.resolving.proofs.resolving.is_leaf.Tie as tie
 

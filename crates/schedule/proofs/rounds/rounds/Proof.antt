@@ -14,7 +14,7 @@ returns c =
 returns-2 : tie.Need-returns-2
 returns-2 c =
     let asks = c .before .before in
-    rw (c .height .ensures .0) (sym (rounds-full (asks .before .args .plan) (sym (asks .is-cut .ensures) ∙ c .before .if1 .left)))
+    rw (c .height .ensures) (sym (rounds-full (asks .before .args .plan) (sym (asks .is-cut .ensures) ∙ c .before .if1 .left)))
 
 pub rounds-spec : {M : Type 1} → statement M
 rounds-spec = tie.close (tie.spec (λ c κs. search needs) (λ c κs. search needs) returns (λ c κs. search needs) returns-2)

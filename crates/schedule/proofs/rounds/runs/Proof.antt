@@ -13,7 +13,7 @@ returns : tie.Need-returns
 returns c =
     let asks = c .before .before .before in
     let p = asks .before .args .plan in
-    rw (c .later-runs .ensures .0 ∙ ap (λ b. ceilDiv (p .n - 3) (b - 3)) (c .before .depth-of .ensures))
+    rw (c .later-runs .ensures .value ∙ ap (λ b. ceilDiv (p .n - 3) (b - 3)) (c .before .depth-of .ensures))
     (sym (runs-cut p (sym (asks .is-cut .ensures) ∙ c .before .before .if1 .taken)))
 
 returns-2 : tie.Need-returns-2

@@ -16,7 +16,7 @@ carried-nodes-requires : tie.Need-carried-nodes-requires
 carried-nodes-requires c κs =
     let known = c .before .before in
     let e = known .before .before .before in
-    carried-walkable (e .pre .0) (e .pre .1) (e .args .board) (e .pre .0 .board-below) _ refl
+    carried-walkable (e .pre .standing) (e .pre .later) (e .args .board) (e .pre .standing .board-below) _ refl
 
 returns : tie.Need-returns
 unfolding sentSays refusal
@@ -25,7 +25,7 @@ returns c =
     let known = listed .before .before .before in
     let e = known .before .before .before in
     let a = e .args in
-    later-none (e .pre .0) (e .pre .1) (a.cells .now) (a.out .now) (listed .carried-nodes .result) (listed .carried-nodes .ensures .counted)
+    later-none (e .pre .standing) (e .pre .later) (a.cells .now) (a.out .now) (listed .carried-nodes .result) (listed .carried-nodes .ensures .counted)
     (sym (c .before .is-idle .ensures) ∙ c .if1 .taken)
 
 returns-2 : tie.Need-returns-2
@@ -36,7 +36,7 @@ returns-2 c =
     let known = listed .before .before .before in
     let e = known .before .before .before in
     let a = e .args in
-    later-short (e .pre .0) (e .pre .1) (a.cells .now) (a.out .now) (listed .carried-nodes .result) (listed .carried-nodes .ensures .counted)
+    later-short (e .pre .standing) (e .pre .later) (a.cells .now) (a.out .now) (listed .carried-nodes .result) (listed .carried-nodes .ensures .counted)
     (sym (busy .before .is-idle .ensures) ∙ busy .if1 .left) (c .if2 .taken)
 
 part-write-at-end : tie.Need-part-write-at-end
@@ -46,7 +46,7 @@ part-write-at-end c =
     let known = listed .before .before .before in
     let e = known .before .before .before in
     let x = listed .carried-nodes in
-    front-fits (e .pre .0) (e .pre .1) (e .args .board) (x .ensures) (e .pre .0 .board-below) (x .kept .1 .1 .1 .1 .1 .0)
+    front-fits (e .pre .standing) (e .pre .later) (e .args .board) (x .ensures) (e .pre .standing .board-below) (x .kept .1 .1 .1 .1 .1 .0)
 
 write-at-requires : tie.Need-write-at-requires
 write-at-requires c κs =
@@ -56,7 +56,7 @@ write-at-requires c κs =
     let known = listed .before .before .before in
     let e = known .before .before .before in
     let x = listed .carried-nodes in
-    (front-nodes (e .pre .0) (e .pre .1) (e .args .board) (x .ensures), e .pre .2, omega (arith, length-take (x .result) (x .last .1 .1 .1 .1 .1 .0), fits .if2 .left))
+    record { are-nodes = front-nodes (e .pre .standing) (e .pre .later) (e .args .board) (x .ensures); enough = e .pre .enough; room = omega (arith, length-take (x .result) (x .last .1 .1 .1 .1 .1 .0), fits .if2 .left) }
 
 returns-3 : tie.Need-returns-3
 unfolding sentSays
@@ -70,9 +70,9 @@ returns-3 c =
     let e = known .before .before .before in
     let a = e .args in
     let x = listed .carried-nodes in
-    later-all (e .pre .0) (e .pre .1) (a.cells .now) (a.out .now) (x .result) (x .ensures .counted)
+    later-all (e .pre .standing) (e .pre .later) (a.cells .now) (a.out .now) (x .result) (x .ensures .counted)
     (sym (busy .before .is-idle .ensures) ∙ busy .if1 .left) (fits .if2 .left) _ _ _
-    (front-labels (e .pre .0) (e .pre .1) a.board (x .ensures))
+    (front-labels (e .pre .standing) (e .pre .later) a.board (x .ensures))
     (sym (labels-length a.plan (a.round .0 - 1) (take (x .result - 0) (x .last .1 .1 .1 .1 .1 .0)))) (written .write-at .ensures)
 
 pub write-later-spec : {M : Type 1} → statement M

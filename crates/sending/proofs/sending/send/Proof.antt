@@ -1,4 +1,4 @@
--- `send` meets its contract: both parts of what writing leaves.
+-- `send` meets its contract: what writing leaves.
 -- Assumes nothing.
 use mathlib.Core.Path.{sym, ap, _∙_}
 use borrow.Author.Needs.{needs}

@@ -37,7 +37,7 @@ unfolding size
 returns c =
     let l = c .before .loop in
     let z : l.i ≡ 8 = omega arith in
-    (l .inv .1 ∙ ap (count (λ j. member j (c .before .before .args .s))) z, omega arith)
+    record { value = l .inv .1 ∙ ap (count (λ j. member j (c .before .before .args .s))) z; bound = omega arith }
 
 pub size-spec : {M : Type 1} → statement M
 size-spec =

@@ -23,14 +23,6 @@ loop-holds : tie.Need-loop-holds Inv-loop μ-loop
 unfolding onStage
 loop-holds c = (search needs, refl, refl)
 
-mul-a : tie.Need-mul-a Inv-loop μ-loop
-mul-a c =
-    let turned = c .before .before .before in
-    let counted = turned .before in
-    let start = counted .before .before .before in
-    let head = start .args .head in
-    record { fits = omega (arith, part-inside head (start .args .cells .now) (start .pre) (turned .loop .i) (counted .cell-count .result) (counted .cell-count .ensures) (omega arith)) }
-
 add-e : tie.Need-add-e Inv-loop μ-loop
 add-e c =
     let turned = c .before .before .before in
@@ -38,6 +30,9 @@ add-e c =
     let start = counted .before .before .before in
     let head = start .args .head in
     record { fits = omega (arith, part-inside head (start .args .cells .now) (start .pre) (turned .loop .i) (counted .cell-count .result) (counted .cell-count .ensures) (omega arith)) }
+
+mul-a : tie.Need-mul-a Inv-loop μ-loop
+mul-a c = record { fits = omega (arith, add-e c .fits) }
 
 part-act-one-end : tie.Need-part-act-one-end Inv-loop μ-loop
 part-act-one-end c =
@@ -65,7 +60,7 @@ loop-again c =
     let cells = did .last .1 .1 .1 .1 .0 in (
       omega arith,
       ap₂ (λ u v. record { recs = u; cells = v }) (w .7) (w .6)
-          ∙ turn a.head f t l.i l.all l.cells size is-size (did .result) cells (l .inv .1) (sym test ∙ w .0 .taken) (did .ensures .0) (did .ensures .1),
+          ∙ turn a.head f t l.i l.all l.cells size is-size (did .result) cells (l .inv .1) (sym test ∙ w .0 .taken) (did .ensures),
       ap length (w .6) ∙ length-lent l.cells cells (l.i * size) (l.i * size + size - l.i * size) (did .kept .1 .1 .1 .1 .0) ∙ l .inv .2,
     ))
     (λ w. (
@@ -86,8 +81,7 @@ returns c =
     let a = start .args in
     let l = turned .loop in
     let all : l.i ≡ a.head .plan .n = omega arith in
-    let e = l .inv .1 ∙ ap (λ m. actAll a.head a.act m (record { recs = a.records; cells = a.cells .now })) all in
-    (ap (λ x. x .recs) e, ap (λ x. x .cells) e)
+    l .inv .1 ∙ ap (λ m. actAll a.head a.act m (record { recs = a.records; cells = a.cells .now })) all
 
 pub act-all-spec : {M : Type 1} → statement M
 act-all-spec =
@@ -105,10 +99,8 @@ act-all-spec =
     (λ c. search needs)
     (λ c. search needs)
     (λ c. search needs)
-    (λ c. search needs)
     part-act-one-end
     (λ c κs. search needs)
-    (λ c. search needs)
     (λ c. search needs)
     (λ c. search needs)
     (λ c. search needs)

@@ -2,7 +2,8 @@
 -- Assumes nothing.
 use mathlib.Core.Path.{sym, ap, _∙_}
 use borrow.Author.Needs.{needs}
-use Rattle.protocol.specs.Rounds.{boardWith, Board}
+use Rattle.protocol.specs.Rounds.{boardWith}
+use Rattle.protocol.specs.Calls.{Result}
 use Rattle.stage.specs.Stage.{acted}
 use Rattle.stage.proofs.acting.act_one.Statement.{statement}
 use Rattle.stage.proofs.acting.act_one.Tie as tie
@@ -14,7 +15,7 @@ returns c =
     let told = did .before .before in
     let a = told .before .before .before .args in
     let same = ap (λ x. acted a.plan x a.i (boardWith a.r (a.cells .now))) (sym (told .enum-told .given .1)) in
-    (did .begin .ensures .1 ∙ ap (λ (x : Board). x .rec) same, did .begin .ensures .2 ∙ ap (λ (x : Board). x .cells) same)
+    ap (λ (x : Result). x .board) (did .begin .ensures) ∙ same
 
 returns-2 : tie.Need-returns-2
 unfolding acted
@@ -23,7 +24,7 @@ returns-2 c =
     let told = did .before .before in
     let a = told .before .before .before .args in
     let same = ap (λ x. acted a.plan x a.i (boardWith a.r (a.cells .now))) (sym (told .enum-told2 .given .1)) in
-    (did .close .ensures .1 ∙ ap (λ (x : Board). x .rec) same, did .close .ensures .2 ∙ ap (λ (x : Board). x .cells) same)
+    ap (λ (x : Result). x .board) (did .close .ensures) ∙ same
 
 pub act-one-spec : {M : Type 1} → statement M
 act-one-spec =

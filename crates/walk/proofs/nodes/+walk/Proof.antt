@@ -17,14 +17,16 @@ use Rattle.sets.proofs.Tests.{not-t, not-f}
 use Rattle.sets.specs.Sets.{member, insert}
 use Rattle.tree.proofs.Descent.{insert-byte}
 use Rattle.walk.specs.Listing.{Written}
-use Rattle.walk.specs.Walk.{pack, isOpen, walked}
+use Rattle.internal.specs.Numbers.{pack}
+use Rattle.internal.specs.Tests.{isOpen}
+use Rattle.walk.specs.Walk.{walked}
 use Rattle.walk.proofs.Steps.{rest, walked-shut, walked-last, walked-inner, number-fits, child-number, child-small, Walking, walking-start, walking-skip, walking-here, walking-room, walking-end}
 use Rattle.sets.proofs.boards.member.Reads as member-reads
-use Rattle.walk.proofs.node.node_of.Reads as node-of-reads
+use Rattle.internal.proofs.node.node_of.Reads as node-of-reads
 use Rattle.walk.proofs.nodes.+walk.Lts-walk as walk-lts
 use Rattle.walk.proofs.nodes.+walk.Tie.{close}
 use Rattle.walk.proofs.nodes.+walk.{statement}
-use Rattle.walk.proofs.internal.is_open.Reads as is-open-reads
+use Rattle.internal.proofs.internal.is_open.Reads as is-open-reads
 use Rattle.walk.proofs.nodes.walk.Kinds as walk-kinds
 use Rattle.walk.proofs.nodes.walk.Reads as walk
 

@@ -1,11 +1,16 @@
-use mathlib.Core.Path.{sym, ap, _∙_}
+use mathlib.Core.Path.{sym, ap, ap₂, _∙_}
 use lib.ListN.{length}
-use Rattle.refusals.specs.Outcome.{verdict}
+use Rattle.refusals.specs.Outcome.{Outcome, verdict}
+use Rattle.plan.specs.declared.plan.Plan.{Plan}
+use Rattle.plan.specs.Calls.{Plans}
 use Rattle.plan.proofs.Accepted.{accepted, planned-taken, planned-refused}
 use Rattle.refusals.proofs.Outcomes.{refusal-number}
 use borrow.Author.Needs.{needs}
 use Rattle.plan.proofs.plan.Plan.new.Statement.{statement}
 use Rattle.plan.proofs.plan.Plan.new.Tie as tie
+
+abbrev both : Outcome → Plan → Plans
+both o p = record { answer = o; plan = p }
 
 on-requires : tie.Need-on-requires
 unfolding verdict
@@ -23,7 +28,7 @@ returns c =
     let start = at-judge .before .before in
     let a = start .args in
     let ok = ap verdict (sym (c .before .enum-told .given .1)) ∙ at-judge .judge .ensures in
-    (ok, c .on .ensures ∙ sym (planned-taken a.n (a.sets .now) a.settings (ap (λ o. o .number) (sym ok))))
+    ap₂ both ok (c .on .ensures ∙ sym (planned-taken a.n (a.sets .now) a.settings (ap (λ o. o .number) (sym ok))))
 
 returns-2 : tie.Need-returns-2
 unfolding verdict
@@ -33,7 +38,7 @@ returns-2 c =
     let start = at-judge .before .before in
     let a = start .args in
     let no = ap verdict (sym (at-answer .answer .given .1)) ∙ at-judge .judge .ensures in
-    (no, c .void .ensures ∙ sym (planned-refused a.n (a.sets .now) a.settings (λ z. refusal-number _ (ap (λ o. o .number) no ∙ z))))
+    ap₂ both no (c .void .ensures ∙ sym (planned-refused a.n (a.sets .now) a.settings (λ z. refusal-number _ (ap (λ o. o .number) no ∙ z))))
 
 pub new-spec : {M : Type 1} → statement M
 new-spec =

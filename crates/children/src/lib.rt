@@ -1,0 +1,2 @@
+// Rule C at a node: what its resolved children say.
+pub mod children;

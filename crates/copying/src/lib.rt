@@ -1,0 +1,2 @@
+// A board copies its own cells to its own children.
+pub mod copying;

@@ -1,0 +1,2 @@
+// Counting bytes, for programs that test.
+pub mod counting;

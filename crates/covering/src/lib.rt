@@ -1,0 +1,2 @@
+// Do three listed sets cover all boards?
+pub mod covering;

@@ -1,0 +1,2 @@
+// The dealer's frame.
+pub mod dealing;

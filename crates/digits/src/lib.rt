@@ -1,0 +1,2 @@
+// A byte written as two digits.
+pub mod writing;

@@ -1,0 +1,1 @@
+// A fair list of calls with a lying board: definitions and proofs only.

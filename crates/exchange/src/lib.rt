@@ -1,0 +1,2 @@
+// What all boards tell each other in a round.
+pub mod senders;

@@ -1,0 +1,2 @@
+// The fields of a head.
+pub mod fields;

@@ -1,0 +1,2 @@
+// The levels of a plan's tree.
+pub mod height;

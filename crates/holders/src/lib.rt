@@ -1,0 +1,2 @@
+// The table of holders of a list of sets.
+pub mod table;

@@ -1,0 +1,2 @@
+// Reading standard input.
+pub mod input;

@@ -1,0 +1,17 @@
+-- What it takes to play a sheet. A middle layer: playing is `playing` of the protocol.
+use Prim.Native.Nat.{ℕ, _+_, _≤_}
+use mathlib.Core.Path.{_≡_}
+use mathlib.Core.List.{List}
+use lib.ListN.{length}
+use Rattle.protocol.specs.Limits.{outputNeeded, cellsNeeded}
+use Rattle.protocol.specs.declared.head.Head.{Head}
+use Rattle.protocol.specs.Sheet.{reading}
+use Rattle.finding.specs.Places.{lineStop}
+
+-- An accepted sheet by its head and where its frame lines begin, with cells and output enough.
+pub record Playable (text cells out : List ℕ) (head : Head) (from : ℕ) : Type 0 where
+  pub accepted : reading text .answer .number ≡ 0
+  pub roomy : cellsNeeded ≤ length cells
+  pub wide : outputNeeded ≤ length out
+  pub heads : head ≡ reading text .head
+  pub begins : from ≡ lineStop text 0 + 1

@@ -1,0 +1,2 @@
+// Playing a sheet.
+pub mod playing;

@@ -1,0 +1,2 @@
+// Does a plan have a round of a run?
+pub mod positions;

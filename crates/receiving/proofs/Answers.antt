@@ -1,0 +1,69 @@
+-- What handing in leaves, by what taking the frame leaves.
+-- Assumes nothing.
+use Prim.Native.Nat.{ℕ, _-_, _<_}
+use mathlib.Core.Path.{_≡_, refl, sym, subst, ap, ap₂, _∙_}
+use mathlib.Core.Logic.{_≢_}
+use mathlib.Core.Bool.{true, _&&_}
+use mathlib.Core.List.{List, []}
+use native.Mathlib.Omega.{arith}
+use lib.Dec.{ltb}
+use borrow.Author.Tests.{ne-eqb, ltb-true}
+use Rattle.codec.specs.Codec.{decode}
+use Rattle.sets.proofs.Tests.{cases, and-l}
+use Rattle.plan.specs.declared.plan.Plan.{Plan}
+use Rattle.schedule.specs.declared.rounds.Round.{Round}
+use Rattle.refusals.specs.Outcome.{Outcome, taken, refused}
+use Rattle.refusals.proofs.Outcomes.{taken-first, refused-first}
+use Rattle.protocol.specs.declared.records.Record.{Record}
+use Rattle.protocol.specs.Nodes.{sent, due}
+use Rattle.protocol.specs.Rounds.{boardWith, Board, receive}
+use Rattle.protocol.specs.Calls.{isTaken, judgeOpen, judgeReceiving, taking, receiving}
+use Rattle.frames.proofs.Standing.{open-stands}
+use Rattle.first_round.specs.Takes.{Takes}
+
+due-below : (p : Plan) (q i : ℕ) (k : Round) → due p q i k ≡ true → q < p .n
+unfolding due
+due-below p q i k e = ltb-true q (p .n) (and-l (ltb q (p .n)) (ltb i (p .n)) (and-l (ltb q (p .n) && ltb i (p .n)) _ e))
+
+module _ (b : Board) (q : ℕ) (f : List ℕ) where
+  judged-closed : judgeOpen b .number ≢ 0 → judgeReceiving b q ≡ judgeOpen b
+  unfolding judgeReceiving
+  judged-closed ne = refused-first (judgeOpen b) _ ne
+
+  pub receive-closed : (o : Outcome) → o ≡ judgeOpen b → o .number ≢ 0 → record { answer = o; board = b } ≡ receiving b q f
+  unfolding receiving taking isTaken
+  receive-closed o e ne =
+      let j = judged-closed (λ z. ne (ap (λ (x : Outcome). x .number) e ∙ z)) in
+      rw (j, sym e, ne-eqb (o .number) 0 ne) refl
+
+  abbrev Taken : Outcome → List ℕ → Type 0
+  Taken o after =
+      let r = b .rec in
+      Takes (r .plan) q (r .detected) (r .marks) (due (r .plan) q (r .board) (r .round)) (sent (r .plan) q (r .board) (r .round)) (decode f) (b .cells) o after
+
+  judged-so : judgeOpen b .number ≡ 0 → (o : Outcome) (after : List ℕ) → Taken o after → judgeReceiving b q ≡ o
+  unfolding judgeReceiving
+  judged-so e o after t = taken-first (judgeOpen b) _ e ∙ sym (t .answer)
+
+  module _ (e : judgeOpen b .number ≡ 0) (x : Outcome) (after : List ℕ) (t : Taken x after) where
+    pub receive-refused : (o : Outcome) → x ≡ o → o .number ≢ 0 → record { answer = o; board = boardWith (b .rec) after } ≡ receiving b q f
+    unfolding receiving taking isTaken
+    receive-refused o z ne =
+        let y = subst (λ v. Taken v after) z t in
+        let no = ne-eqb (o .number) 0 ne in
+        ap (λ cells. record { answer = o; board = boardWith (b .rec) cells }) (rw no at (y .cells)) ∙ rw (judged-so e o after y, no) refl
+
+    pub receive-taken : x ≡ taken [] → (r : Record) → r ≡ receive q (decode f) b .rec → record { answer = taken []; board = boardWith r after } ≡ receiving b q f
+    unfolding receiving taking receive isTaken
+    receive-taken z r m =
+        let y = subst (λ v. Taken v after) z t in
+        ap₂ (λ v cells. record { answer = taken []; board = boardWith v cells }) m (y .cells) ∙ rw (judged-so e (taken []) after y) refl
+
+    -- A frame that is taken was due.
+    taken-due : x ≡ taken [] → due (b .rec .plan) q (b .rec .board) (b .rec .round) ≡ true
+    taken-due z =
+        cases (due (b .rec .plan) q (b .rec .board) (b .rec .round)) (λ y. y)
+        (λ y. absurd (let w : taken [] ≡ refused 14 = sym z ∙ rw y at (t .answer) in let v : 0 ≡ 14 = ap (λ (o : Outcome). o .number) w in omega arith))
+
+    pub taken-small : x ≡ taken [] → q < 8
+    taken-small z = omega (arith, due-below (b .rec .plan) q (b .rec .board) (b .rec .round) (taken-due z), open-stands b e .0 .most-boards)

@@ -1,0 +1,2 @@
+// Rule C.
+pub mod rule_c;

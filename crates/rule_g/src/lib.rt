@@ -1,0 +1,2 @@
+// Rule G at a node.
+pub mod rule_g;

@@ -1,0 +1,46 @@
+// What a plan has beside its sets, and what is refused of it.
+use codec::value::Value;
+use refusals::refusal::Refusal;
+use refusals::refusal::Verdict;
+ghost use mathlib.Core.Path.{_≡_};
+ghost use Rattle.refusals.specs.Outcome.{verdict};
+ghost use Rattle.settings.specs.Planning.{judgeSettings};
+
+// The least span.
+pub const LEAST_SPAN: Value = 2;
+// The depths of a cut tree.
+pub const SHALLOW: u8 = 4;
+
+pub const DEEP: u8 = 7;
+
+// A dealer, a span and a depth.
+pub struct Settings {
+    pub dealer: u8,
+    pub span: Value,
+    pub depth: u8,
+}
+
+// 6, 7 and 8.
+pub fn judge_settings(n: u8, settings: Settings) -> Verdict
+    ensures { λ r. ⌜ verdict r ≡ judgeSettings n settings ⌝ }
+{
+    let dealer = settings.dealer;
+    let span = settings.span;
+    let depth = settings.depth;
+    if n <= dealer {
+        return Verdict::Refused(Refusal::Dealer);
+    }
+    if span < LEAST_SPAN {
+        return Verdict::Refused(Refusal::Span);
+    }
+    if depth == 0 {
+        return Verdict::Accepted;
+    }
+    if depth < SHALLOW {
+        return Verdict::Refused(Refusal::Depth);
+    }
+    if DEEP < depth {
+        return Verdict::Refused(Refusal::Depth);
+    }
+    Verdict::Accepted
+}

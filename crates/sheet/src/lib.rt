@@ -1,3 +1,0 @@
-// Playing a sheet.
-pub mod playing;
-mod rounds;

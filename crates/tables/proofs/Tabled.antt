@@ -1,0 +1,30 @@
+-- A set of a plan's boards is tolerated exactly if the plan's table of holders holds it.
+-- Assumes nothing.
+use Prim.Native.Nat.{ℕ, _≤_, _<_, _^_}
+use mathlib.Core.Path.{_≡_, ap, _∙_}
+use mathlib.Core.Bool.{not}
+use mathlib.Core.List.{List}
+use native.Mathlib.Omega.{arith}
+use lib.Dec.{eqb}
+use lib.ListN.{length, getD}
+use lib.Pow.{pow-mono}
+use Rattle.sets.specs.Structure.{tolerated}
+use Rattle.holders.specs.Holders.{Asked}
+use Rattle.holders.proofs.Held.{table-length, table-at, held-tolerated}
+use Rattle.plan.specs.declared.plan.Plan.{Plan}
+use Rattle.plan.specs.Listed.{listed}
+use Rattle.tables.specs.Tabled.{Tabled}
+
+-- A set of the plan's boards is one of the 128.
+pub small-set : (p : Plan) (a : ℕ) → p .n ≤ 7 → a < 2 ^ p .n → a < 128
+small-set p a l h = let z : 2 ^ p .n ≤ 2 ^ 7 = pow-mono l in omega arith
+
+module _ {p : Plan} {holders : List ℕ} (t : Tabled p holders) (a : ℕ) (below : a < 2 ^ p .n) where
+  pub asked : Asked holders a
+  asked = record { whole = ap length (t .table) ∙ table-length (listed p); small = small-set p a (t .most-boards) below }
+
+  pub held-is : not (eqb (getD holders a 255) 255) ≡ tolerated (listed p) a
+  held-is =
+      ap (λ h. not (eqb (getD h a 255) 255)) (t .table)
+      ∙ ap (λ x. not (eqb x 255)) (table-at (listed p) a (small-set p a (t .most-boards) below))
+      ∙ held-tolerated (listed p) a (t .few-sets)

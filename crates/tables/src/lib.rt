@@ -1,0 +1,3 @@
+// The listed sets of a plan, and its table of holders.
+pub mod asking;
+pub mod listed;

@@ -1,0 +1,53 @@
+// Taking a frame of any round.
+use crate::later::take_later;
+use codec::value::Value;
+use first_round::word::take_word;
+use plan::plan::Plan;
+use refusals::refusal::Refusal;
+use refusals::refusal::Verdict;
+use schedule::rounds::Round;
+use tables::listed::table_of;
+ghost use Prim.Native.Nat.{_≤_};
+ghost use lib.ListN.{length};
+ghost use Rattle.codec.specs.Codec.{decode};
+ghost use Rattle.refusals.specs.Outcome.{verdict};
+ghost use Rattle.tree.specs.Places.{cellCount};
+ghost use Rattle.protocol.specs.Nodes.{sent, due};
+ghost use Rattle.frames.specs.Nodes.{Stands};
+ghost use Rattle.first_round.specs.Takes.{Takes};
+
+// 14, 15, then the frame is stored.
+pub fn take(
+    plan: Plan,
+    board: u8,
+    round: Round,
+    detected: u8,
+    marks: u8,
+    q: u8,
+    frame: &[u8],
+    cells: &mut [Value],
+) -> Verdict
+    requires { ⌜ Stands plan board round × (cellCount (plan .n) ≤ length (now cells)) ⌝ }
+    ensures { λ v. ⌜ Takes plan q detected marks (due plan q board round) (sent plan q board round) (decode (now (frame .entry))) (now (cells .entry)) (verdict v) (now (cells .exit)) ⌝ }
+{
+    let n = plan.n;
+    let k = round.0;
+    if n <= q {
+        return Verdict::Refused(Refusal::NotDue);
+    }
+    if k == 1 {
+        return take_word(plan, detected, marks, q, frame, cells);
+    }
+    let holders = table_of(plan);
+    take_later(
+        plan,
+        &holders,
+        board,
+        round,
+        detected,
+        marks,
+        q,
+        frame,
+        cells,
+    )
+}
