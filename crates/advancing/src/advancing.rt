@@ -2,31 +2,27 @@
 use clearing::cells::keep_root;
 use codec::value::Value;
 use conversion::converting::convert_cells;
-use protocol::answers::Closing;
 use protocol::records::Record;
 use schedule::rounds::Round;
 use schedule::rounds::Run;
-use schedule::rounds::rounds;
 use schedule::rounds::runs;
 ghost use mathlib.Core.Path.{_≡_};
 ghost use mathlib.Core.Bool.{true};
-ghost use Prim.Native.Nat.{_<_};
-ghost use Rattle.schedule.specs.Schedule.{rounds};
 ghost use Rattle.protocol.specs.Records.{advanced, runEnded};
 ghost use Rattle.protocol.specs.Rounds.{boardWith, convert};
 ghost use Rattle.protocol.specs.Calls.{goodRecord};
-ghost use Rattle.advancing.specs.Ends.{Ends};
+ghost use Rattle.advancing.specs.Ends.{GoesOn, Ends};
 
 // The next round of the same run.
 pub fn next_round(r: Record, list: u8) -> Record
-    requires { ⌜ (goodRecord r ≡ true) × (r .round .0 < rounds (r .plan) .0) ⌝ }
+    requires { ⌜ GoesOn r ⌝ }
     ensures { λ x. ⌜ x ≡ advanced r list ⌝ }
 {
     let mut next = r;
     let k = r.round.0;
     let round = Round(k + 1);
     next.round = round;
-    next.detected = list;
+    next.list = list;
     next.marks = 0;
     next.decided = false;
     next.decision = 0;
@@ -42,7 +38,7 @@ fn next_run(r: Record, list: u8, root: u8) -> Record
     let most = last.0;
     let t = r.run.0;
     let mut next = r;
-    next.detected = list;
+    next.list = list;
     next.marks = 0;
     if t == most {
         next.decided = true;
@@ -61,7 +57,7 @@ fn next_run(r: Record, list: u8, root: u8) -> Record
 // Closing the last round of a run: the root, rule C, the cells, and the record.
 pub fn convert_round(r: Record, holders: &[u8], list: u8, cells: &mut [Value]) -> Record
     requires { ⌜ Ends r (now holders) (now cells) ⌝ }
-    ensures { λ x. ⌜ boardWith x (now (cells .exit)) ≡ convert (boardWith r (now (cells .entry))) (record { detected = list; cells = now (cells .entry) }) ⌝ }
+    ensures { λ x. ⌜ boardWith x (now (cells .exit)) ≡ convert (boardWith r (now (cells .entry))) (record { list = list; cells = now (cells .entry) }) ⌝ }
 {
     let converted = convert_cells(r.plan, holders, r.board, r.run, r.round, list, cells);
     let root = converted.root;

@@ -8,12 +8,12 @@ use Rattle.sets.proofs.Tests.{cases}
 use Rattle.protocol.specs.Rounds.{Board}
 use Rattle.protocol.specs.Calls.{receiving}
 use Rattle.synchronous.proofs.Reached.{Reached, reached-taking, reached-closing}
-use Rattle.agreement.specs.Lists.{Call, receives, sends, closes, decides, leaves, caller, step, after}
+use Rattle.agreement.specs.Lists.{Call, receives, sends, closes, decides, leaves, caller, afterOne, after}
 
 pub reached-after : (calls : List Call) (w : ℕ → Board) (i : ℕ) → Reached (w i) → Reached (after w calls i)
 unfolding after
 reached-after [] w i h = h
-reached-after (c ∷ calls) w i h = reached-after calls (step w c) i (one c)
+reached-after (c ∷ calls) w i h = reached-after calls (afterOne w c) i (one c)
   where
     done : (c : Call) → Reached (leaves c (w i))
     done (receives j q f) = unfold leaves receiving in reached-taking (w i) q (decode f) h
@@ -21,5 +21,5 @@ reached-after (c ∷ calls) w i h = reached-after calls (step w c) i (one c)
     done (closes j) = unfold leaves in reached-closing (w i) h
     done (decides j) = unfold leaves in h
 
-    one : (c : Call) → Reached (step w c i)
-    one c = unfold step in cases (eqb i (caller c)) (λ e. rw e (done c)) (λ e. rw e h)
+    one : (c : Call) → Reached (afterOne w c i)
+    one c = unfold afterOne in cases (eqb i (caller c)) (λ e. rw e (done c)) (λ e. rw e h)

@@ -116,7 +116,7 @@ module _ (s : Setting) (a : Adversary) (sound : Sound s) where
     st = standing s a sound j i ki l
 
     abbrev pub rec : Record
-    rec = canon s a sound i j (at s a j i .rec .detected)
+    rec = canon s a sound i j (at s a j i .rec .list)
 
     pub rec-good : Good rec
     rec-good = subst Good (st .shape) (st .good)
@@ -126,10 +126,10 @@ module _ (s : Setting) (a : Adversary) (sound : Sound s) where
 
     -- The list and the cells after rule G.
     abbrev pub scanned : Scan
-    scanned = detectAllG plan i (stepRun plan (suc j)) (stepRound plan (suc j)) (inner plan i (stepRound plan (suc j) .0 - 1)) (record { detected = at s a j i .rec .detected; cells = stored-cells })
+    scanned = detectAllG plan i (stepRun plan (suc j)) (stepRound plan (suc j)) (inner plan i (stepRound plan (suc j) .0 - 1)) (record { list = at s a j i .rec .list; cells = stored-cells })
 
     -- What board i has of a healthy board q, or of itself, is that board's cell.
-    pub stored-healthy : (q e : ℕ) (α : Label) → keeper s q ≡ true → member q (at s a j i .rec .detected) ≡ false → stepRound plan (suc j) .0 ≡ suc (suc e)
+    pub stored-healthy : (q e : ℕ) (α : Label) → keeper s q ≡ true → member q (at s a j i .rec .list) ≡ false → stepRound plan (suc j) .0 ≡ suc (suc e)
         → List·Memᴰ α (inner plan i (suc e)) → occurs q α ≡ false → read plan stored-cells (q ∷ α) ≡ read plan (at s a j q .cells) α
     stored-healthy q e α kq out ek m a-out =
         let (lq, fq, nq) = keeper-facts s a sound q kq in
@@ -158,5 +158,5 @@ module _ (s : Setting) (a : Adversary) (sound : Sound s) where
         let out : List·Memᴰ γ (nodes plan i (stepRound plan (suc j) .0)) → ⊥ = λ y. ne (other-level plan (good-dealer rec rec-good) i b (stepRound plan (suc j) .0) γ w y) in
         ap (value plan)
         (detect-outside plan (good-dealer rec rec-good) i (stepRun plan (suc j)) (stepRound plan (suc j)) (stepRound plan (suc j) .0) (inner plan i (stepRound plan (suc j) .0 - 1))
-        (record { detected = at s a j i .rec .detected; cells = stored-cells }) (λ _ y. y) (rec-good .position .round-low) b γ w out
+        (record { list = at s a j i .rec .list; cells = stored-cells }) (λ _ y. y) (rec-good .position .round-low) b γ w out
         ∙ filled-outside rec rec-good refl (told s a i j) (at s a j i .cells) (st .room) b γ w out)

@@ -112,9 +112,9 @@ module _ (s : Setting) (calls : List Call) (sound : Sound s) (fair : Fair s call
       let c = closings (begun s) i now in
       let le : j ≤ c = closings-mono s i before now p in
       let z : j + (c - j) ≡ c = omega arith in
-      member-within (state s before i .rec .plan .n) (listAfter s before i) (listAfter s now i) (rec-good before early i ki .detected-below)
+      member-within (state s before i .rec .plan .n) (listAfter s before i) (listAfter s now i) (rec-good before early i ki .list-below)
       (λ r _ on. subst (λ x. member r x ≡ true) (sym (here now q i ki .list))
-      (subst (λ x. member r (at s faulty x i .rec .detected) ≡ true) z
+      (subst (λ x. member r (at s faulty x i .rec .list) ≡ true) z
       (lists-grow s faulty sound i ki (c - j) j (omega (arith, here now q i ki .most)) r
       (subst (λ x. member r x ≡ true) (here before early i ki .list) on))))
 
@@ -175,8 +175,8 @@ module _ (s : Setting) (calls : List Call) (sound : Sound s) (fair : Fair s call
     list-is : list s i before ≡ listEnded s faulty t i
     unfolding list listAfter listEnded ended
     list-is =
-        ap (λ (b : Board). b .rec .detected) (sym (closed-state s i before)) ∙ is .list
-        ∙ ap (λ m. at s faulty m i .rec .detected) (one-more ∙ step-is)
+        ap (λ (b : Board). b .rec .list) (sym (closed-state s i before)) ∙ is .list
+        ∙ ap (λ m. at s faulty m i .rec .list) (one-more ∙ step-is)
 
   -- The boards on every list, as those closings left them.
   every : (t : ℕ) (before : ℕ → List Call) → ((i : ℕ) → keeper s i ≡ true → EndsRun s t i (before i) calls) → (r : ℕ)
@@ -203,7 +203,7 @@ module _ (s : Setting) (calls : List Call) (sound : Sound s) (fair : Fair s call
   -- The list that a closing left is the board's list after it.
   list-left : (i : ℕ) (before : List Call) → list s i before ≡ listAfter s (before ++ (closes i ∷ [])) i
   unfolding list listAfter
-  list-left i before = ap (λ (b : Board). b .rec .detected) (sym (closed-state s i before))
+  list-left i before = ap (λ (b : Board). b .rec .list) (sym (closed-state s i before))
 
   -- Who stands on all lists that the closings left stands on all of them after the whole list.
   bounded-now : isCut plan ≡ true → (t : ℕ) (before : ℕ → List Call) → ((i : ℕ) → keeper s i ≡ true → EndsRun s t i (before i) calls)

@@ -10,6 +10,7 @@ use lib.ListN.{getD, take}
 use lib.Seq.{append-snoc}
 use borrow.Author.Tests.{eqb-true, eq-eqb, ne-eqb}
 use Rattle.sets.specs.Search.{any}
+use Rattle.sets.specs.Only.{sameList}
 use Rattle.sets.specs.Sets.{member}
 use Rattle.sets.proofs.Tests.{cases, clash, and-l, and-r, and-true, or-true, not-t, true-not}
 use Rattle.sets.proofs.Search.{any-of}
@@ -19,7 +20,6 @@ use Rattle.schedule.specs.declared.rounds.Round.{Round}
 use Rattle.protocol.specs.Nodes.{due}
 use Rattle.protocol.specs.Calls.{isTaken, dealing, sending}
 use Rattle.protocol.specs.Session.{Setting, keeper}
-use Rattle.protocol.specs.Cases.{sameList}
 use Rattle.protocol.proofs.Judgement.{is-taken, taken-is}
 use Rattle.protocol.proofs.Taken.{due-sender}
 use Rattle.agreement.specs.Lists.{Call, receives, sends, closes, decides, caller, answers, state, Stands, Taken, SameRound, Written, AsSent, HandedInAsSent, Fair, StrictlyFair}

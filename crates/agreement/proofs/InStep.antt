@@ -151,15 +151,15 @@ module _ (b : Board) (d : b .rec .decided ≡ true) where
 
 -- Lists of calls are those of the reduction.
 after-same : (p : Plan) (w : World) (cs : List Call) → R.after (boards p) w cs ≡ L.after w cs
-unfolding R.after L.after R.step L.step
+unfolding R.after L.after R.afterOne L.afterOne
 after-same p w [] = refl
-after-same p w (c ∷ cs) = after-same p (L.step w c) cs
+after-same p w (c ∷ cs) = after-same p (L.afterOne w c) cs
 
 closings-same : (p : Plan) (w : World) (i : ℕ) (cs : List Call) → R.closings (boards p) w i cs ≡ closings w i cs
-unfolding R.closings closings R.step L.step endsOf isTaken
+unfolding R.closings closings R.afterOne L.afterOne endsOf isTaken
 closings-same p w i [] = refl
 closings-same p w i (c ∷ cs) =
-    ap₂ _+_ (ap (λ b. cond b 1 0) (swap (eqb i (caller c)) (isClosing c) (eqb (answers c (w i) .number) 0))) (closings-same p (L.step w c) i cs)
+    ap₂ _+_ (ap (λ b. cond b 1 0) (swap (eqb i (caller c)) (isClosing c) (eqb (answers c (w i) .number) 0))) (closings-same p (L.afterOne w c) i cs)
   where
     swap : (a b c : Bool) → (a && (b && c)) ≡ (b && (a && c))
     swap true true c = refl
@@ -178,14 +178,14 @@ module _ (s : Setting) (a : Adversary) (sound : Sound s) where
   base j i = at s a j i
 
   abbrev recAt : ℕ → ℕ → Record
-  recAt j i = canon s a sound i j (base j i .rec .detected)
+  recAt j i = canon s a sound i j (base j i .rec .list)
 
   -- The board with the frames that it has taken in the step.
   abbrev hearing : ℕ → ℕ → (ℕ → Option (List ℕ)) → Board
   hearing j i msg =
       let r = recAt j i in
-      boardWith (withMarks r (marks (r .plan) (r .board) (r .round) (r .detected) msg (plan .n)))
-      (heardCells (r .plan) (r .board) (r .round) (r .detected) msg (base j i .cells) (plan .n))
+      boardWith (withMarks r (marks (r .plan) (r .board) (r .round) (r .list) msg (plan .n)))
+      (heardCells (r .plan) (r .board) (r .round) (r .list) msg (base j i .cells) (plan .n))
 
   -- A step that is not yet closed.
   module _ (j i : ℕ) (ki : keeper s i ≡ true) (l : j < steps plan) where
@@ -210,7 +210,7 @@ module _ (s : Setting) (a : Adversary) (sound : Sound s) where
         (λ q lq. cases (due plan q i (stepRound plan (suc j)))
         (λ d. ap (λ o. due plan q i (stepRound plan (suc j)) && isGiven o) (h q d))
         (λ d. rw d refl))
-        (λ q lq t. ap (λ o. counted (recAt j i .detected) q (sent plan q i (stepRound plan (suc j))) (Option·getD o []))
+        (λ q lq t. ap (λ o. counted (recAt j i .list) q (sent plan q i (stepRound plan (suc j))) (Option·getD o []))
         (h q (and-l (due plan q i (stepRound plan (suc j))) (isGiven (msg q)) t)))
 
     -- A frame more: it is due, and the first of its sender.
@@ -402,7 +402,7 @@ module _ (s : Setting) (calls : List Call) (sound : Sound s) (fair : Fair s call
   -- Board i after the calls `before`, against the session after as many steps as closings of it were taken.
   pub record InStep (before : List Call) (i : ℕ) : Type 0 where
     pub most : closings (begun s) i before ≤ steps (s .plan)
-    pub list : listAfter s before i ≡ at s adversary (closings (begun s) i before) i .rec .detected
+    pub list : listAfter s before i ≡ at s adversary (closings (begun s) i before) i .rec .list
     -- past the first step
     pub root : 0 < closings (begun s) i before → getD (state s before i .cells) 0 blank ≡ getD (at s adversary (closings (begun s) i before) i .cells) 0 blank
     -- before the last step is closed
@@ -425,7 +425,7 @@ module _ (s : Setting) (calls : List Call) (sound : Sound s) (fair : Fair s call
       let most : j ≤ steps (s .plan) = omega (arith, w .most) in
       record {
         most = most;
-        list = below-or-end j (steps (s .plan)) most (λ l. ap (λ (b : Board). b .rec .detected) (here l)) (λ z. ap (λ (b : Board). b .rec .detected) (done z ∙ ap (λ k. at s adversary k i) (sym z)));
+        list = below-or-end j (steps (s .plan)) most (λ l. ap (λ (b : Board). b .rec .list) (here l)) (λ z. ap (λ (b : Board). b .rec .list) (done z ∙ ap (λ k. at s adversary k i) (sym z)));
         root = λ low. below-or-end j (steps (s .plan)) most
             (λ l. ap (λ (b : Board). getD (b .cells) 0 blank) (here l) ∙ hearing-root s adversary sound j i ki l msg low)
             (λ z. ap (λ (b : Board). getD (b .cells) 0 blank) (done z ∙ ap (λ k. at s adversary k i) (sym z)));

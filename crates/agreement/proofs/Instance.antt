@@ -29,15 +29,17 @@ use Rattle.theory.specs.Tree.{Node, root, child}
 use Rattle.theory.proofs.Plans.{good}
 use Rattle.protocol.specs.Nodes.{read, internal, nodes, inner}
 use Rattle.protocol.proofs.Nodes.{no-node, root-node, node-root, node-has, node-inv, inner-has, inner-inv, internal-tol, internal-has}
-use Rattle.protocol.specs.Detection.{vote, tabulate, resolve}
+use Rattle.sets.specs.Tabulate.{tabulate}
+use Rattle.sets.proofs.Tabulated.{tabulate-at}
+use Rattle.protocol.specs.Detection.{vote, resolve}
 use Rattle.protocol.proofs.Judgement.{plan-facts}
-use Rattle.protocol.proofs.Bounds.{default-small, tabulate-at}
+use Rattle.protocol.proofs.Bounds.{default-small}
 use Rattle.protocol.specs.Listing.{asSet}
 use Rattle.protocol.proofs.Tolerance.{tol, tol-mono, tol-q3, tol-path, setOf-same}
 
 -- The list as a test.
 abbrev pub listOf : ℕ → T.Boards
-listOf detected = λ r. member r (asSet detected)
+listOf list = λ r. member r (asSet list)
 
 -- The plan of the theory.
 abbrev pub inst : Plan → T.Plan
@@ -118,4 +120,4 @@ resolve-inst p i cells (suc k) α =
     let child-of : ℕ → Option ℕ = λ c. cond (occurs c α) none (resolve p i cells k (c ∷ α)) in
     ap (λ o. cond (internal p i α) o (some (read p cells α)))
     (vote-same p α (λ c. getD (tabulate child-of 0 (p .n)) c none) (λ c. T.resolve (inst p) i (read p cells) k (c ∷ α))
-    (λ c l a. tabulate-at child-of (p .n) 0 c l ∙ ap child-of (let z : 0 + c ≡ c = omega arith in z) ∙ rw a (resolve-inst p i cells k (c ∷ α))))
+    (λ c l a. tabulate-at child-of (p .n) c none l ∙ rw a (resolve-inst p i cells k (c ∷ α))))

@@ -18,10 +18,10 @@ use Rattle.sets.proofs.Member.{within-empty}
 use Rattle.schedule.specs.Schedule.{steps}
 use Rattle.protocol.specs.Limits.{sheetMost, outputNeeded, cellsNeeded}
 use Rattle.protocol.specs.Session.{Setting, Boards, boardAt, at, keeper}
-use Rattle.protocol.specs.declared.head.Head.{Head}
-use Rattle.protocol.specs.Sheet.{Frame, wrongAt, reading}
-use Rattle.protocol.specs.Playing.{sheetAdversary, setting, finalBoards, printed, boardLine, printBoards, Play, refusedPlay, playHead, playing, refusalText, benchPrints}
-use Rattle.protocol.proofs.Sheets.{sheet-sound}
+use Rattle.sheet.specs.declared.head.Head.{Head}
+use Rattle.sheet.specs.Sheet.{Frame, wrongAt, reading}
+use Rattle.sheet.specs.Playing.{sheetAdversary, setting, finalBoards, printed, boardLine, printBoards, Play, refusedPlay, playHead, playing, refusalText, benchPrints}
+use Rattle.sheet.proofs.Sheets.{sheet-sound}
 use Rattle.agreement.specs.Claims.{SessionAgreement}
 use Rattle.agreement.specs.Printed.{agreedLines, Printed}
 use Rattle.agreement.proofs.Session.{synchronous}
@@ -99,7 +99,7 @@ module _ (h : Head) (fs : List Frame) (cells : List ℕ) (agreed : SessionAgreem
 
   -- The lists: the dealer's is empty.
   lists : ℕ → ℕ
-  lists i = cond (eqb i (h .plan .dealer)) 0 (boardAt w i .rec .detected)
+  lists i = cond (eqb i (h .plan .dealer)) 0 (boardAt w i .rec .list)
 
   lists-sound : (i : ℕ) → i < h .plan .n → member i (h .faulty) ≡ false → within (lists i) (h .faulty) ≡ true
   unfolding lists setting finalBoards at
@@ -118,7 +118,7 @@ module _ (h : Head) (fs : List Frame) (cells : List ℕ) (agreed : SessionAgreem
       (λ f. cases (eqb i (h .plan .dealer))
       (λ d. let v : chosen .decision ≡ h .word = chosen .dealers (ap (λ x. member x (h .faulty)) (sym (eqb-true i (h .plan .dealer) d)) ∙ f) in
       rw (f, d) (ap₂ (λ x y. printed i x 0 y) (sym v) ih))
-      (λ d. rw (f, d) (ap₂ (λ x y. printed i x (boardAt w i .rec .detected) y) (chosen .keepers i (is-keeper i (omega arith) f d)) ih)))
+      (λ d. rw (f, d) (ap₂ (λ x y. printed i x (boardAt w i .rec .list) y) (chosen .keepers i (is-keeper i (omega arith) f d)) ih)))
 
 -- What a played sheet prints obeys demand 3.
 pub printed-agreement : Printed

@@ -76,19 +76,19 @@ module _ {Frame : Type 0} (j q : ℕ) (e : Entry Frame) where
 
 -- Lists of calls: the states after them, the closings that were taken, and the frames.
 module _ {S Call Frame : Type 0} (B : Boards S Call Frame) where
-  unfoldable pub step : (ℕ → S) → Call → ℕ → S
-  step w c i = cond (eqb i (B .caller c)) (B .leaves c (w i)) (w i)
+  unfoldable pub afterOne : (ℕ → S) → Call → ℕ → S
+  afterOne w c i = cond (eqb i (B .caller c)) (B .leaves c (w i)) (w i)
 
   unfoldable pub after : (ℕ → S) → List Call → ℕ → S
   after w [] = w
-  after w (c ∷ cs) = after (step w c) cs
+  after w (c ∷ cs) = after (afterOne w c) cs
 
   abbrev pub closesNow : (ℕ → S) → ℕ → Call → Bool
   closesNow w i c = eqb i (B .caller c) && B .ends c (w i)
 
   unfoldable pub closings : (ℕ → S) → ℕ → List Call → ℕ
   closings w i [] = 0
-  closings w i (c ∷ cs) = cond (closesNow w i c) 1 0 + closings (step w c) i cs
+  closings w i (c ∷ cs) = cond (closesNow w i c) 1 0 + closings (afterOne w c) i cs
 
   -- What the call brings board i from q for step j.
   abbrev brings : (ℕ → S) → ℕ → ℕ → ℕ → Call → Option Frame
@@ -97,7 +97,7 @@ module _ {S Call Frame : Type 0} (B : Boards S Call Frame) where
   -- The first frame of q that board i takes for step j, before it closes that step; k of its closings were taken before.
   pub tookFrom : (ℕ → S) → ℕ → ℕ → ℕ → ℕ → List Call → Option Frame
   tookFrom w i k j q [] = none
-  tookFrom w i k j q (c ∷ cs) = orElse (cond (leb k j) (brings w i j q c) none) (tookFrom (step w c) i (one (closesNow w i c) + k) j q cs)
+  tookFrom w i k j q (c ∷ cs) = orElse (cond (leb k j) (brings w i j q c) none) (tookFrom (afterOne w c) i (one (closesNow w i c) + k) j q cs)
 
   abbrev pub took : (ℕ → S) → ℕ → ℕ → ℕ → List Call → Option Frame
   took w i j q cs = tookFrom w i 0 j q cs
@@ -105,31 +105,31 @@ module _ {S Call Frame : Type 0} (B : Boards S Call Frame) where
   pub after-append : (w : ℕ → S) (xs ys : List Call) → after w (xs ++ ys) ≡ after (after w xs) ys
   unfolding after
   after-append w [] ys = refl
-  after-append w (c ∷ xs) ys = after-append (step w c) xs ys
+  after-append w (c ∷ xs) ys = after-append (afterOne w c) xs ys
 
-  after-next : (w : ℕ → S) (before : List Call) (c : Call) → after w (before ++ (c ∷ [])) ≡ step (after w before) c
+  after-next : (w : ℕ → S) (before : List Call) (c : Call) → after w (before ++ (c ∷ [])) ≡ afterOne (after w before) c
   unfolding after
   after-next w before c = after-append w before (c ∷ [])
 
-  step-own : (w : ℕ → S) (c : Call) (i : ℕ) → i ≡ B .caller c → step w c i ≡ B .leaves c (w i)
-  unfolding step
-  step-own w c i e = rw (eq-eqb i (B .caller c) e)
+  one-own : (w : ℕ → S) (c : Call) (i : ℕ) → i ≡ B .caller c → afterOne w c i ≡ B .leaves c (w i)
+  unfolding afterOne
+  one-own w c i e = rw (eq-eqb i (B .caller c) e)
 
-  step-other : (w : ℕ → S) (c : Call) (i : ℕ) → i ≢ B .caller c → step w c i ≡ w i
-  unfolding step
-  step-other w c i ne = rw (ne-eqb i (B .caller c) ne)
+  one-other : (w : ℕ → S) (c : Call) (i : ℕ) → i ≢ B .caller c → afterOne w c i ≡ w i
+  unfolding afterOne
+  one-other w c i ne = rw (ne-eqb i (B .caller c) ne)
 
   pub own-next : (w : ℕ → S) (before : List Call) (c : Call) (i : ℕ) → i ≡ B .caller c
       → after w (before ++ (c ∷ [])) i ≡ B .leaves c (after w before i)
-  own-next w before c i e = ap (λ (v : ℕ → S). v i) (after-next w before c) ∙ step-own (after w before) c i e
+  own-next w before c i e = ap (λ (v : ℕ → S). v i) (after-next w before c) ∙ one-own (after w before) c i e
 
   other-next : (w : ℕ → S) (before : List Call) (c : Call) (i : ℕ) → i ≢ B .caller c → after w (before ++ (c ∷ [])) i ≡ after w before i
-  other-next w before c i ne = ap (λ (v : ℕ → S). v i) (after-next w before c) ∙ step-other (after w before) c i ne
+  other-next w before c i ne = ap (λ (v : ℕ → S). v i) (after-next w before c) ∙ one-other (after w before) c i ne
 
   closings-append : (w : ℕ → S) (i : ℕ) (xs ys : List Call) → closings w i (xs ++ ys) ≡ closings w i xs + closings (after w xs) i ys
   unfolding closings after
   closings-append w i [] ys = omega arith
-  closings-append w i (c ∷ xs) ys = omega (arith, closings-append (step w c) i xs ys)
+  closings-append w i (c ∷ xs) ys = omega (arith, closings-append (afterOne w c) i xs ys)
 
   pub closings-next : (w : ℕ → S) (i : ℕ) (before : List Call) (c : Call) (x : Bool) → closesNow (after w before) i c ≡ x
       → closings w i (before ++ (c ∷ [])) ≡ closings w i before + one x
@@ -147,16 +147,16 @@ module _ {S Call Frame : Type 0} (B : Boards S Call Frame) where
   took-append w i k j q [] ys = ap (λ z. tookFrom w i z j q ys) (let z : k ≡ 0 + k = omega arith in z)
   took-append w i k j q (c ∷ xs) ys =
       let here : Option Frame = cond (leb k j) (brings w i j q c) none in
-      let sum : closings (step w c) i xs + (one (closesNow w i c) + k) ≡ one (closesNow w i c) + closings (step w c) i xs + k = omega arith in
-      ap (orElse here) (took-append (step w c) i (one (closesNow w i c) + k) j q xs ys
-      ∙ ap (λ z. orElse (tookFrom (step w c) i (one (closesNow w i c) + k) j q xs) (tookFrom (after (step w c) xs) i z j q ys)) sum)
+      let sum : closings (afterOne w c) i xs + (one (closesNow w i c) + k) ≡ one (closesNow w i c) + closings (afterOne w c) i xs + k = omega arith in
+      ap (orElse here) (took-append (afterOne w c) i (one (closesNow w i c) + k) j q xs ys
+      ∙ ap (λ z. orElse (tookFrom (afterOne w c) i (one (closesNow w i c) + k) j q xs) (tookFrom (after (afterOne w c) xs) i z j q ys)) sum)
       ∙ sym (or-else-assoc here _ _)
 
   -- No frame is taken for a step that is closed.
   took-past : (w : ℕ → S) (i k j q : ℕ) (cs : List Call) → j < k → tookFrom w i k j q cs ≡ none
   unfolding tookFrom orElse
   took-past w i k j q [] l = refl
-  took-past w i k j q (c ∷ cs) l = rw (lt-leb k j l) (took-past (step w c) i (one (closesNow w i c) + k) j q cs (omega arith))
+  took-past w i k j q (c ∷ cs) l = rw (lt-leb k j l) (took-past (afterOne w c) i (one (closesNow w i c) + k) j q cs (omega arith))
 
 -- The session
 
@@ -433,8 +433,8 @@ module _ {S Call Frame : Type 0} (B : Boards S Call Frame) (w₀ : ℕ → S) (N
       let w = after B w₀ before in
       let quiet : brings B w i j q c ≡ none = brought-nothing B w₀ N before c i j q own (L .apart c (w i) ok) in
       let shut : closesNow B w i c ≡ true = rw (eq-eqb i (B .caller c) own, ok) in
-      let past : tookFrom B (step B w c) i (one (closesNow B w i c) + (j + 0)) j q (st .0) ≡ none =
-      took-past B (step B w c) i (one (closesNow B w i c) + (j + 0)) j q (st .0) (rw shut (omega arith)) in
+      let past : tookFrom B (afterOne B w c) i (one (closesNow B w i c) + (j + 0)) j q (st .0) ≡ none =
+      took-past B (afterOne B w c) i (one (closesNow B w i c) + (j + 0)) j q (st .0) (rw shut (omega arith)) in
       let by-it : cond (leb (j + 0) j) (brings B w i j q c) none ≡ none = cases (leb (j + 0) j) (λ x. rw (x, quiet)) (λ x. rw x) in
       ap (took B w₀ i j q) (st .1) ∙ took-append B w₀ i 0 j q before (c ∷ st .0)
       ∙ ap (orElse (took B w₀ i j q before)) (ap₂ orElse by-it past) ∙ or-else-none (took B w₀ i j q before)

@@ -137,9 +137,9 @@ module _ (p : Plan) (i : ℕ) (run : Run) (round : Round) (cells : List ℕ) whe
         (level-sound (inner p i (suc k)) s (λ α m. h (suc k) α (omega arith) (omega arith) m) sound)
 
 -- 01: "L stays" when a run ends.
-pub convert-grow : (b : Board) (s : Scan) (q : ℕ) → member q (s .detected) ≡ true → member q (convert b s .rec .detected) ≡ true
+pub convert-grow : (b : Board) (s : Scan) (q : ℕ) → member q (s .list) ≡ true → member q (convert b s .rec .list) ≡ true
 unfolding convert runEnded
-convert-grow b s q h = let r = b .rec in levels-grow (r .plan) (r .board) (r .run) (r .round) (s .cells) (rounds (r .plan) .0 - 1) (s .detected) q h
+convert-grow b s q h = let r = b .rec in levels-grow (r .plan) (r .board) (r .run) (r .round) (s .cells) (rounds (r .plan) .0 - 1) (s .list) q h
 
 -- 01: "The resolved root becomes the root cell", in every run.
 pub convert-cells : (b : Board) (s : Scan) → let r = b .rec in convert b s .cells ≡ rootOnly (r .plan .n) (resolveRoot (r .plan) (r .board) (s .cells)) (s .cells)

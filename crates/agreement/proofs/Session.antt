@@ -59,15 +59,15 @@ module _ (s : Setting) (a : Adversary) (sound : Sound s) where
   last-of-all = let z : suc last-run ≡ runs plan .0 = omega (arith, runs-pos plan) in omega (arith, suc-mul last-run (rounds plan .0 - 1), rounds-pos plan)
 
   -- Lists name boards below n.
-  list-below : (j i : ℕ) → j ≤ steps plan → keeper s i ≡ true → at s a j i .rec .detected < 2 ^ plan .n
+  list-below : (j i : ℕ) → j ≤ steps plan → keeper s i ≡ true → at s a j i .rec .list < 2 ^ plan .n
   list-below zero i h ki =
       let x = standing s a sound 0 i ki (omega (arith, last-of-all)) in
-      subst (λ (r : Record). at s a 0 i .rec .detected < 2 ^ r .plan .n) (x .shape) (x .good .detected-below)
+      subst (λ (r : Record). at s a 0 i .rec .list < 2 ^ r .plan .n) (x .shape) (x .good .list-below)
   list-below (suc j) i h ki =
       let x = st s a sound j i ki h in
       let b = ready s a sound j i ki x h in
-      subst (λ (c : Board). c .rec .detected < 2 ^ plan .n) (sym (after-step s a sound j i ki x h))
-      (subst (λ (p : Plan). close b .rec .detected < 2 ^ p .n) (close-plan b) (close-good b (ready-open s a sound j i ki x h .good) .detected-below))
+      subst (λ (c : Board). c .rec .list < 2 ^ plan .n) (sym (after-step s a sound j i ki x h))
+      (subst (λ (p : Plan). close b .rec .list < 2 ^ p .n) (close-plan b) (close-good b (ready-open s a sound j i ki x h .good) .list-below))
 
   root-after : (t : ℕ) → t < runs plan .0 → (i : ℕ) → keeper s i ≡ true → rootAfter s a (suc t) i ≡ roots s a sound t i
   unfolding rootAfter ended rootOnly
@@ -116,12 +116,12 @@ module _ (s : Setting) (a : Adversary) (sound : Sound s) where
   every-list t lt r =
       ap not (any-same
       (U.fails (inst plan) (listOf F) (λ i. lists s a sound (suc t) i r))
-      (λ i. keeper s i && not (member r (ended s a (suc t) i .rec .detected))) (plan .n)
+      (λ i. keeper s i && not (member r (ended s a (suc t) i .rec .list))) (plan .n)
       (λ i l. rw (lt-ltb i (plan .n) l, number s a sound t lt) (sym (and-assoc (not (member i F)) (not (eqb i (plan .dealer))) _))))
 
   pub session-agreement : SessionAgreement s a
   session-agreement = record {
-    sound = λ j i h ki. member-within (plan .n) (at s a j i .rec .detected) F (list-below j i h ki) (lists-within s a sound j i h ki);
+    sound = λ j i h ki. member-within (plan .n) (at s a j i .rec .list) F (list-below j i h ki) (lists-within s a sound j i h ki);
     decided = λ i ki. decision i ki .0;
     equal = λ i k ki kk. decision i ki .1 ∙ agreed i k ki kk ∙ sym (decision k kk .1);
     dealers = λ f i ki. decision i ki .1 ∙ validity (good s a sound) (session s a sound) f last-run i in-runs (healthy s a sound i ki);

@@ -62,7 +62,7 @@ module _ (s : Setting) (a : Adversary) (sound : Sound s) where
 
   pub record Inv (j : ℕ) : Type 0 where
     -- lists hold faulty boards only
-    pub lists : (i : ℕ) → keeper s i ≡ true → T.Sub (plan .n) (listOf (at s a j i .rec .detected)) (listOf F)
+    pub lists : (i : ℕ) → keeper s i ≡ true → T.Sub (plan .n) (listOf (at s a j i .rec .list)) (listOf F)
     -- in the levels that are filled, a healthy board's child has that board's cell
     pub deliver : (i q e : ℕ) (α : Label) → keeper s i ≡ true → keeper s q ≡ true → List·Memᴰ α (inner plan i (suc e)) → occurs q α ≡ false
         → suc (suc e) < open-round j → read plan (at s a j i .cells) (q ∷ α) ≡ read plan (at s a j q .cells) α
@@ -78,8 +78,8 @@ module _ (s : Setting) (a : Adversary) (sound : Sound s) where
     dealer-below = plan-facts plan (sound .accepted) .dealer-below
 
     -- a healthy board is not listed
-    unlisted : (i q : ℕ) → keeper s i ≡ true → q < plan .n → member q F ≡ false → member q (at s a j i .rec .detected) ≡ false
-    unlisted i q ki lq f = is-false (member q (at s a j i .rec .detected)) (λ t. clash (I .lists i ki q lq t) f)
+    unlisted : (i q : ℕ) → keeper s i ≡ true → q < plan .n → member q F ≡ false → member q (at s a j i .rec .list) ≡ false
+    unlisted i q ki lq f = is-false (member q (at s a j i .rec .list)) (λ t. clash (I .lists i ki q lq t) f)
 
     -- The healthy children of a healthy board's node have one value.
     minds : (i e : ℕ) (ki : keeper s i ≡ true) (α : Label) → open-round j ≡ suc (suc e) → List·Memᴰ α (inner plan i (suc e)) → member (last α) F ≡ false
@@ -124,12 +124,12 @@ module _ (s : Setting) (a : Adversary) (sound : Sound s) where
         rw (filled-length (rec s a sound j i ki l) (rec-good s a sound j i ki l) refl (told s a i j) (at s a j i .cells) (t .room)) (t .room)
 
     -- Rule G lists faulty boards only.
-    pub scan-lists : (i : ℕ) (ki : keeper s i ≡ true) → T.Sub (plan .n) (listOf (scanned s a sound j i ki l .detected)) (listOf F)
+    pub scan-lists : (i : ℕ) (ki : keeper s i ≡ true) → T.Sub (plan .n) (listOf (scanned s a sound j i ki l .list)) (listOf F)
     scan-lists i ki =
         let k = open-round j - 1 in
         let high = position s a sound j i ki (standing s a sound j i ki l) l .round-high in
         scan-sound plan dealer-below i (stepRun plan (suc j)) (stepRound plan (suc j)) k F (good s a sound) (inner plan i k)
-        (record { detected = at s a j i .rec .detected; cells = stored-cells s a sound j i ki l })
+        (record { list = at s a j i .rec .list; cells = stored-cells s a sound j i ki l })
         {j = rounds plan .0 - k}
         (λ α m. mem-node plan i k (rounds plan .0 - k) α (inner-inv plan i k α m .0) (omega arith))
         (λ _ m. m) (room i ki)
@@ -146,7 +146,7 @@ module _ (s : Setting) (a : Adversary) (sound : Sound s) where
     scan-keeps i q ki b α lq f w =
         ⊎-elim (λ x. x) (λ x. clash (scan-lists i ki q lq (x .1)) f)
         (scan-cell plan dealer-below i (stepRun plan (suc j)) (stepRound plan (suc j)) (open-round j - 1) (inner plan i (open-round j - 1))
-        (record { detected = at s a j i .rec .detected; cells = stored-cells s a sound j i ki l }) b (q ∷ α) (λ _ m. m) w (room i ki))
+        (record { list = at s a j i .rec .list; cells = stored-cells s a sound j i ki l }) b (q ∷ α) (λ _ m. m) w (room i ki))
 
     -- After rule G a healthy board's child has that board's cell, in this level too.
     pub scan-deliver : (i q e : ℕ) (α : Label) (ki : keeper s i ≡ true) (kq : keeper s q ≡ true) → List·Memᴰ α (inner plan i (suc e)) → occurs q α ≡ false
@@ -254,12 +254,12 @@ module _ (s : Setting) (a : Adversary) (sound : Sound s) where
 
       -- Rule C lists faulty boards only.
       pub convert-lists : (i : ℕ) → keeper s i ≡ true
-          → T.Sub (plan .n) (listOf (detectLevels plan i (stepRun plan (suc j)) (stepRound plan (suc j)) (scan-of i .cells) (rounds plan .0 - 1) (scan-of i .detected))) (listOf F)
+          → T.Sub (plan .n) (listOf (detectLevels plan i (stepRun plan (suc j)) (stepRound plan (suc j)) (scan-of i .cells) (rounds plan .0 - 1) (scan-of i .list))) (listOf F)
       unfolding byResolving
       convert-lists i ki =
-          levels-sound plan i (stepRun plan (suc j)) (stepRound plan (suc j)) (scan-of i .cells) F (good s a sound) (rounds plan .0 - 1) (scan-of i .detected)
+          levels-sound plan i (stepRun plan (suc j)) (stepRound plan (suc j)) (scan-of i .cells) F (good s a sound) (rounds plan .0 - 1) (scan-of i .list)
           (λ k α low high m. at-level k α low high m)
-          (subst (λ x. T.Sub (plan .n) (listOf (x .detected)) (listOf F)) (sym (scan-is i ki)) (scan-lists i ki))
+          (subst (λ x. T.Sub (plan .n) (listOf (x .list)) (listOf F)) (sym (scan-is i ki)) (scan-lists i ki))
         where
           at-level : (k : ℕ) (α : Label) → 1 ≤ k → k ≤ rounds plan .0 - 1 → List·Memᴰ α (inner plan i k)
               → (left : ℕ) × T.Node (inst plan) i left α × Minds plan i (stepRun plan (suc j)) (stepRound plan (suc j)) (scan-of i .cells) F (good s a sound) α
@@ -314,14 +314,14 @@ module _ (s : Setting) (a : Adversary) (sound : Sound s) where
       high = position s a sound j i ki (st s a sound j i ki l) l .round-high
 
       -- Its list holds faulty boards only.
-      pub lists-next : T.Sub (plan .n) (listOf (at s a (suc j) i .rec .detected)) (listOf F)
+      pub lists-next : T.Sub (plan .n) (listOf (at s a (suc j) i .rec .list)) (listOf F)
       unfolding nextRound convert runEnded
       lists-next =
           cases (ltb (open-round j) (rounds plan .0))
-          (λ e. subst (λ b. T.Sub (plan .n) (listOf (b .rec .detected)) (listOf F)) (sym (within-run (ltb-true (open-round j) (rounds plan .0) e)))
-          (subst (λ x. T.Sub (plan .n) (listOf (x .detected)) (listOf F)) (sym (scan-is i ki)) (scan-lists i ki)))
+          (λ e. subst (λ b. T.Sub (plan .n) (listOf (b .rec .list)) (listOf F)) (sym (within-run (ltb-true (open-round j) (rounds plan .0) e)))
+          (subst (λ x. T.Sub (plan .n) (listOf (x .list)) (listOf F)) (sym (scan-is i ki)) (scan-lists i ki)))
           (λ e. let ge = ltb-false (open-round j) (rounds plan .0) e in
-          subst (λ b. T.Sub (plan .n) (listOf (b .rec .detected)) (listOf F)) (sym (run-ends ge)) (convert-lists (omega (arith, high)) i ki))
+          subst (λ b. T.Sub (plan .n) (listOf (b .rec .list)) (listOf F)) (sym (run-ends ge)) (convert-lists (omega (arith, high)) i ki))
 
       -- The round that is open next.
       next-open : suc j < steps plan → at s a (suc j) i .rec .round .0 ≡ open-round (suc j)
@@ -362,7 +362,7 @@ module _ (s : Setting) (a : Adversary) (sound : Sound s) where
   -- At the start lists are empty.
   pub inv-start : 0 < steps plan → Inv 0
   inv-start l = record {
-    lists = λ i ki q lq t. clash (subst (λ x. member q (x .detected) ≡ true) (fresh i ki) t) (unfold freshRecord in member-empty q);
+    lists = λ i ki q lq t. clash (subst (λ x. member q (x .list) ≡ true) (fresh i ki) t) (unfold freshRecord in member-empty q);
     deliver = λ i q e α ki kq m out h. absurd (let y : ⊥ = omega (arith, one i ki) in y);
     root = λ h f i ki. absurd (let y : ⊥ = omega (arith, one i ki) in y);
   }
@@ -379,7 +379,7 @@ module _ (s : Setting) (a : Adversary) (sound : Sound s) where
   inv (suc j) l = inv-next j (omega arith) (inv j (omega arith)) l
 
   -- 003, section 3.2: every list of a healthy board lies within F, after every step.
-  pub lists-within : (j i : ℕ) → j ≤ steps plan → keeper s i ≡ true → T.Sub (plan .n) (listOf (at s a j i .rec .detected)) (listOf F)
+  pub lists-within : (j i : ℕ) → j ≤ steps plan → keeper s i ≡ true → T.Sub (plan .n) (listOf (at s a j i .rec .list)) (listOf F)
   lists-within zero i h ki = inv-start (some-step i ki) .lists i ki
     where
       some-step : (i : ℕ) → keeper s i ≡ true → 0 < steps plan

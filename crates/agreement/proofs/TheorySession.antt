@@ -76,7 +76,7 @@ module _ (s : Setting) (a : Adversary) (sound : Sound s) where
   cells t i α = read plan (scan s a sound (last-step t) i .cells) α
 
   abbrev pub mids : ℕ → ℕ → T.Boards
-  mids t i = listOf (scan s a sound (last-step t) i .detected)
+  mids t i = listOf (scan s a sound (last-step t) i .list)
 
   -- The number of steps before a run.
   abbrev pub first-step : ℕ → ℕ
@@ -84,7 +84,7 @@ module _ (s : Setting) (a : Adversary) (sound : Sound s) where
   first-step (suc t) = suc (last-step t)
 
   abbrev pub lists : ℕ → ℕ → T.Boards
-  lists t i = listOf (at s a (first-step t) i .rec .detected)
+  lists t i = listOf (at s a (first-step t) i .rec .list)
 
   -- A run's first frames after round 1 come R - 2 steps before its end.
   room-before : (t : ℕ) → t < runs plan .0 → first-step t + (R - 2) ≤ last-step t
@@ -111,13 +111,13 @@ module _ (s : Setting) (a : Adversary) (sound : Sound s) where
     mid-sound = λ {p = i} H.
         let ki = healthy-keeper s a sound i H in
         let I = inv s a sound (last-step t) (in-time t lt) in
-        subst (λ x. T.Sub (plan .n) (listOf (x .detected)) (listOf F)) (sym (scan-is s a sound (last-step t) (in-time t lt) I i ki))
+        subst (λ x. T.Sub (plan .n) (listOf (x .list)) (listOf F)) (sym (scan-is s a sound (last-step t) (in-time t lt) I i ki))
         (scan-lists s a sound (last-step t) (in-time t lt) I i ki);
     end-sound = λ {p = i} H. lists-within s a sound (suc (last-step t)) i (in-time t lt) (healthy-keeper s a sound i H);
     grows = λ {p = i} H r lr on.
         let ki = healthy-keeper s a sound i H in
         let far = room-before t lt in
-        subst (λ x. member r (at s a x i .rec .detected) ≡ true) (let z : first-step t + (suc (last-step t) - first-step t) ≡ suc (last-step t) = omega arith in z)
+        subst (λ x. member r (at s a x i .rec .list) ≡ true) (let z : first-step t + (suc (last-step t) - first-step t) ≡ suc (last-step t) = omega arith in z)
         (lists-grow s a sound i ki (suc (last-step t) - first-step t) (first-step t) (let h = in-time t lt in omega arith) r on);
     rule-g = λ {p = i} {r} {k} {α} H N inn nd u.
         let ki = healthy-keeper s a sound i H in

@@ -24,11 +24,11 @@ rootAfter s a t i = getD (ended s a t i .cells) 0 blank
 
 -- Board i's list then.
 unfoldable pub listEnded : Setting → Adversary → ℕ → ℕ → ℕ
-listEnded s a t i = ended s a t i .rec .detected
+listEnded s a t i = ended s a t i .rec .list
 
 pub record SessionAgreement (s : Setting) (a : Adversary) : Type 0 where
   -- every list of a board outside F lies within F, after every step
-  pub sound : (j i : ℕ) → j ≤ steps (s .plan) → keeper s i ≡ true → within (asSet (at s a j i .rec .detected)) (s .faulty) ≡ true
+  pub sound : (j i : ℕ) → j ≤ steps (s .plan) → keeper s i ≡ true → within (asSet (at s a j i .rec .list)) (s .faulty) ≡ true
   -- after the last step all boards outside F that keep cells have decided
   pub decided : (i : ℕ) → keeper s i ≡ true → at s a (steps (s .plan)) i .rec .decided ≡ true
   -- one value

@@ -52,12 +52,12 @@ answers (decides i) b = deciding (b .rec)
 abbrev pub World : Type 0
 World = ℕ → Board
 
-unfoldable pub step : World → Call → World
-step w c i = cond (eqb i (caller c)) (leaves c (w i)) (w i)
+unfoldable pub afterOne : World → Call → World
+afterOne w c i = cond (eqb i (caller c)) (leaves c (w i)) (w i)
 
 unfoldable pub after : World → List Call → World
 after w [] = w
-after w (c ∷ cs) = after (step w c) cs
+after w (c ∷ cs) = after (afterOne w c) cs
 
 -- Board i after the calls.
 unfoldable pub state : Setting → List Call → ℕ → Board
@@ -137,7 +137,7 @@ isClosing (decides i) = false
 -- How many closings of board i were taken.
 unfoldable pub closings : World → ℕ → List Call → ℕ
 closings w i [] = 0
-closings w i (c ∷ cs) = cond (isClosing c && (eqb i (caller c) && eqb (answers c (w i) .number) 0)) 1 0 + closings (step w c) i cs
+closings w i (c ∷ cs) = cond (isClosing c && (eqb i (caller c) && eqb (answers c (w i) .number) 0)) 1 0 + closings (afterOne w c) i cs
 
 -- The user's words: "past their last round": as many closings of board i were taken as the plan has rounds over all runs.
 abbrev pub PastLast : Setting → List Call → ℕ → Type 0
@@ -155,7 +155,7 @@ unfoldable pub root : Setting → ℕ → List Call → ℕ
 root s i before = getD (closing (state s before i) .board .cells) 0 blank
 
 unfoldable pub list : Setting → ℕ → List Call → ℕ
-list s i before = closing (state s before i) .board .rec .detected
+list s i before = closing (state s before i) .board .rec .list
 
 -- Does board r stand on the list of every board outside F that keeps cells? `lists` has each board's list.
 unfoldable pub onEvery : Setting → (ℕ → ℕ) → ℕ → Bool
@@ -163,7 +163,7 @@ onEvery s lists r = not (any (λ i. keeper s i && not (member r (asSet (lists i)
 
 -- Board i's list after the calls.
 unfoldable pub listAfter : Setting → List Call → ℕ → ℕ
-listAfter s calls i = state s calls i .rec .detected
+listAfter s calls i = state s calls i .rec .list
 
 -- 01: "After every fair list, for every such F, whatever its boards send".
 pub record Agreement (s : Setting) (calls : List Call) : Type 0 where

@@ -4,9 +4,9 @@ use mathlib.Core.Path.{_≡_}
 use mathlib.Core.Bool.{true, false, cond}
 use mathlib.Core.List.{List, []}
 use Rattle.sets.specs.Sets.{member, within}
-use Rattle.protocol.specs.declared.head.Head.{Head}
-use Rattle.protocol.specs.Sheet.{reading}
-use Rattle.protocol.specs.Playing.{printed, playing, benchPrints}
+use Rattle.sheet.specs.declared.head.Head.{Head}
+use Rattle.sheet.specs.Sheet.{reading}
+use Rattle.sheet.specs.Playing.{printed, playing, benchPrints}
 
 -- The lines of those boards i to i + k - 1 that are outside F, rising: the board, one decision, and the board's list.
 unfoldable pub agreedLines : Head → ℕ → (ℕ → ℕ) → ℕ → ℕ → List ℕ

@@ -1,18 +1,17 @@
 -- What beginning leaves, by its judgement: a call that is turned down changes nothing.
 -- Assumes nothing.
-use Prim.Native.Nat.{ℕ, _≤_}
+use Prim.Native.Nat.{ℕ}
 use mathlib.Core.Path.{_≡_, refl, sym, ap}
 use mathlib.Core.Logic.{_≢_}
 use mathlib.Core.List.{List, []}
-use lib.ListN.{length}
 use borrow.Author.Tests.{ne-eqb}
 use Rattle.plan.specs.declared.plan.Plan.{Plan}
 use Rattle.refusals.specs.Outcome.{Outcome, taken, andThen}
 use Rattle.plan.specs.Calls.{judged}
 use Rattle.refusals.proofs.Outcomes.{both-taken}
-use Rattle.tree.specs.Places.{cellCount}
 use Rattle.protocol.specs.Calls.{isTaken, judgeBoard, judgeBeginning, beginning, freshRecord, voidRecord}
 use Rattle.protocol.proofs.Judgement.{cells-facts}
+use Rattle.clearing.specs.Clearing.{Clearable}
 use Rattle.judging.proofs.Judged.{roomed, room-judged, then-same}
 use Rattle.protocol.specs.Rounds.{boardWith, cleared}
 
@@ -32,9 +31,9 @@ module _ (p : Plan) (i : ℕ) (cells : List ℕ) where
   begin-taken e = rw (sym e) refl
 
   -- A beginning that is taken has an accepted plan and cells enough.
-  pub begin-ready : judgeBeginning p i cells .number ≡ 0 → (judged p .number ≡ 0) × (cellCount (p .n) ≤ length cells)
+  pub begin-ready : judgeBeginning p i cells .number ≡ 0 → Clearable p cells
   unfolding judgeBeginning
   begin-ready e =
       let (e1, e2) = both-taken (judged p) _ e in
       let (_, e3) = both-taken (judgeBoard p i) _ e2 in
-      (e1, cells-facts p cells e3)
+      record { accepted = e1; enough = cells-facts p cells e3 }

@@ -13,7 +13,7 @@ ghost use mathlib.Core.Bool.{cond};
 ghost use mathlib.Core.List.{[]};
 ghost use lib.Dec.{ltb};
 ghost use lib.ListN.{length};
-ghost use Rattle.protocol.specs.Playing.{benchPrints};
+ghost use Rattle.sheet.specs.Playing.{benchPrints};
 ghost use Rattle.bench.specs.Printing.{Prints};
 
 // What is printed for a sheet: how many bytes of the output. Nothing if a refusal does not fit.

@@ -12,7 +12,7 @@ use Rattle.plan.specs.declared.plan.Plan.{Plan}
 use Rattle.tree.specs.Places.{outsideBelow}
 use Rattle.tree.proofs.Boards.{outside-zero, outside-more, outside-skip}
 use Rattle.protocol.specs.declared.records.Rule.the-variants as Rule
-use Rattle.voting.specs.Worth.{worth, table}
+use Rattle.voting.specs.Worth.{worth, childTable}
 use Rattle.voting.specs.Tables.{explainedBy}
 use Rattle.voting.proofs.Table.{table-zero, table-more, table-skip}
 use Rattle.children.specs.Standing.{standingFrom, passesAt}
@@ -21,7 +21,7 @@ use Rattle.children.specs.Standing.{standingFrom, passesAt}
 pub record Reads (n s from c at : ℕ) (values cells : List ℕ) : Type 0 where
   pub inside : c ≤ n
   pub number : at ≡ from + outsideBelow s c
-  pub values-are : values ≡ table (standingFrom cells from s) s c
+  pub values-are : values ≡ childTable (standingFrom cells from s) s c
 
 module _ {n s from : ℕ} {cells : List ℕ} where
   pub reads-start : Reads n s from 0 from (replicate 8 255) cells
@@ -43,8 +43,8 @@ module _ {n s from : ℕ} {cells : List ℕ} where
       values-are = b ∙ ap₂ (λ x j. set x c (getD cells j 0)) (r .values-are) (r .number) ∙ sym (table-more (standingFrom cells from s) s c e);
     }
 
-  pub reads-end : {c at : ℕ} {values : List ℕ} → Reads n s from c at values cells → n ≤ c → values ≡ table (standingFrom cells from s) s n
-  reads-end {c} r h = r .values-are ∙ ap (table (standingFrom cells from s) s) (let z : c ≡ n = omega (arith, r .inside) in z)
+  pub reads-end : {c at : ℕ} {values : List ℕ} → Reads n s from c at values cells → n ≤ c → values ≡ childTable (standingFrom cells from s) s n
+  reads-end {c} r h = r .values-are ∙ ap (childTable (standingFrom cells from s) s) (let z : c ≡ n = omega (arith, r .inside) in z)
 
 -- The rule at a node, as a number.
 module _ (p : Plan) (cells : List ℕ) (from x list : ℕ) where
@@ -52,9 +52,9 @@ module _ (p : Plan) (cells : List ℕ) (from x list : ℕ) where
   unfolding passesAt
   passes-listed e = sym (or-left (member (x / 128 % 8) list) _ e)
 
-  pub passes-explained : (s : ℕ) (values : List ℕ) → member (x / 128 % 8) list ≡ false → s ≡ x % 128 → values ≡ table (standingFrom cells from s) s (p .n)
+  pub passes-explained : (s : ℕ) (values : List ℕ) → member (x / 128 % 8) list ≡ false → s ≡ x % 128 → values ≡ childTable (standingFrom cells from s) s (p .n)
       → explainedBy p s values list ≡ passesAt p cells from x list
   unfolding passesAt
   passes-explained s values out e f =
-      let g : ℕ → Bool = λ b. explainedBy p b (table (standingFrom cells from b) b (p .n)) list in
+      let g : ℕ → Bool = λ b. explainedBy p b (childTable (standingFrom cells from b) b (p .n)) list in
       ap (λ t. explainedBy p s t list) f ∙ ap g e ∙ sym (ap (λ b. b || g (x % 128)) out)

@@ -5,19 +5,16 @@ use internal::node::boards_of;
 use internal::node::last_of;
 use listing::listing::as_set;
 use plan::plan::Plan;
-use protocol::records::Rule;
 use sets::boards::member;
 ghost use mathlib.Core.Path.{_≡_};
-ghost use Prim.Native.Nat.{_%_};
-ghost use Rattle.tables.specs.Tabled.{Tabled};
-ghost use Rattle.voting.specs.Worth.{table};
-ghost use Rattle.children.specs.Standing.{Beside};
+ghost use Rattle.voting.specs.Worth.{childTable};
+ghost use Rattle.children.specs.Standing.{Beside, Explainable};
 ghost use Rattle.children.specs.Standing.{standingFrom, passesAt};
 
 // The cells of a node's children, which stand side by side from `from`, by board; FF for a board of the node.
 fn child_cells(n: u8, boards: u8, from: usize, cells: &[Value]) -> [Value; 8]
     requires { ⌜ Beside n boards from (now cells) ⌝ }
-    ensures { λ t. ⌜ t ≡ table (standingFrom (now (cells .entry)) from boards) boards n ⌝ }
+    ensures { λ t. ⌜ t ≡ childTable (standingFrom (now (cells .entry)) from boards) boards n ⌝ }
 {
     let mut values = [Plan::BLANK; 8];
     let mut at = from;
@@ -41,7 +38,7 @@ pub fn passes_at(
     list: u8,
     cells: &[Value],
 ) -> bool
-    requires { ⌜ Tabled plan (now holders) × Beside (plan .n) (node % 128) from (now cells) ⌝ }
+    requires { ⌜ Explainable plan (now holders) from node (now cells) ⌝ }
     ensures { λ r. ⌜ r ≡ passesAt plan (now (cells .entry)) from node list ⌝ }
 {
     let set = as_set(list);

@@ -11,18 +11,15 @@ use refusals::refusal::Verdict;
 use schedule::rounds::rounds;
 use tables::listed::table_of;
 ghost use mathlib.Core.Path.{_≡_};
-ghost use mathlib.Core.Bool.{true};
-ghost use Prim.Native.Nat.{_≤_};
-ghost use lib.ListN.{length};
 ghost use Rattle.refusals.specs.Outcome.{taken};
-ghost use Rattle.tree.specs.Places.{cellCount};
 ghost use Rattle.protocol.specs.Answers.{closingSays};
 ghost use Rattle.protocol.specs.Rounds.{boardWith, close};
-ghost use Rattle.protocol.specs.Calls.{goodRecord, closing, closedValues};
+ghost use Rattle.protocol.specs.Calls.{closing, closedValues};
+ghost use Rattle.closing.specs.Closable.{Closable};
 
 // A round is closed: the record.
 fn close_round(r: Record, cells: &mut [Value]) -> Record
-    requires { ⌜ (goodRecord r ≡ true) × (cellCount (r .plan .n) ≤ length (now cells)) ⌝ }
+    requires { ⌜ Closable r (now cells) ⌝ }
     ensures { λ x. ⌜ boardWith x (now (cells .exit)) ≡ close (boardWith r (now (cells .entry))) ⌝ }
 {
     let holders = table_of(r.plan);
@@ -33,7 +30,7 @@ fn close_round(r: Record, cells: &mut [Value]) -> Record
         r.run,
         r.round,
         r.marks,
-        r.detected,
+        r.list,
         cells,
     );
     let end = rounds(r.plan);

@@ -24,7 +24,7 @@ use Rattle.protocol.specs.declared.records.Rule.the-variants as Rule
 use Rattle.protocol.specs.Listing.{join}
 use Rattle.protocol.specs.Detection.{byResolving, passes, detectC, detectAllC, detectLevels}
 use Rattle.protocol.proofs.Nodes.{no-node, node-root, inner-inv, node-inv, node-label, node-length, internal-tol, internal-above}
-use Rattle.voting.specs.Worth.{worth, table}
+use Rattle.voting.specs.Worth.{worth, childTable}
 use Rattle.voting.specs.Tables.{explainedBy}
 use Rattle.voting.proofs.Laws.{explained-table}
 use Rattle.resolving.specs.Settled.{settledAll}
@@ -48,14 +48,14 @@ node-under p i (suc (suc j)) k α m e =
     rw x (under-trans (node-under p i (suc j) (suc k) β v (omega arith)) (down t l a here))
 
 -- The table looks only at what children are worth.
-table-worth : (f g : ℕ → Option ℕ) (s n : ℕ) → ((c : ℕ) → c < n → member c s ≡ false → worth (f c) ≡ worth (g c)) → table f s n ≡ table g s n
-unfolding table
+table-worth : (f g : ℕ → Option ℕ) (s n : ℕ) → ((c : ℕ) → c < n → member c s ≡ false → worth (f c) ≡ worth (g c)) → childTable f s n ≡ childTable g s n
+unfolding childTable
 table-worth f g s zero h = refl
 table-worth f g s (suc k) h =
     let ih = table-worth f g s k (λ c l e. h c (omega arith) e) in
     cases (member k s)
     (λ e. rw e ih)
-    (λ e. rw e (ap (λ t. set t k (worth (f k))) ih ∙ ap (λ x. set (table g s k) k x) (h k (omega arith) e)))
+    (λ e. rw e (ap (λ t. set t k (worth (f k))) ih ∙ ap (λ x. set (childTable g s k) k x) (h k (omega arith) e)))
 
 module _ (p : Plan) (i : ℕ) (cells : List ℕ) where
   module _ (ld : p .dealer < p .n) where

@@ -11,8 +11,9 @@ use lib.ListN.{length, replicate}
 use borrow.Author.Tests.{ltb-true}
 use Rattle.codec.specs.Codec.{encode, decode, numberAt}
 use Rattle.sets.specs.Search.{first, any, count}
+use Rattle.sets.specs.Tabulate.{tabulate}
 use Rattle.sets.specs.Sets.{member, union, insert, within, boards, setOf, size}
-use Rattle.sets.specs.Only.{only, same}
+use Rattle.sets.specs.Only.{only, same, sameList}
 use Rattle.sets.specs.Structure.{holder, isSome, tolerated}
 use Rattle.sets.proofs.Tests.{clash, and-l}
 use Rattle.admission.specs.Calls.{strays}
@@ -31,13 +32,12 @@ use Rattle.tree.specs.Cells.{blank, cellAt, store}
 use Rattle.plan.specs.Values.{default, value}
 use Rattle.protocol.specs.Nodes.{read, filter, internal, nodes, inner, carried, sent, due, frame}
 use Rattle.protocol.specs.Listing.{join}
-use Rattle.protocol.specs.Detection.{vote, tabulate, resolve, resolveRoot, explained, byCell, byResolving, passes, maskBoard, detectG, detectAllG, detectC, detectAllC, detectLevels}
+use Rattle.protocol.specs.Detection.{vote, resolve, resolveRoot, explained, byCell, byResolving, passes, maskBoard, detectG, detectAllG, detectC, detectAllC, detectLevels}
 use Rattle.protocol.specs.Records.{runEnded}
 use Rattle.protocol.specs.Rounds.{fill, counted, receive, fillMissing, copyOwn, gather, rootOnly, nextRound, convert, close}
 use Rattle.protocol.specs.Calls.{isTaken, judgeNumber, judgeOther, judgeBoard, judgeCells, goodPlan, goodNumber, goodOther, goodPosition, goodMarks, goodDecision, goodRecord, judgeRecord, judgeOpen, freshRecord, voidRecord, judgeBeginning, beginning, dealing, judgeReceiving, taking, receiving, frameOf, wireOf, judgeSending, sending, closedValues, closing, deciding}
-use Rattle.protocol.specs.Cases.{sameList}
 use Rattle.protocol.specs.Session.{begun, keeper, Sound}
-use Rattle.agreement.specs.Lists.{receives, closes, answers, after, caller, leaves, state, step, Fair, EndsRun, root, listAfter, onEvery, Agreement}
+use Rattle.agreement.specs.Lists.{receives, closes, answers, after, caller, leaves, state, afterOne, Fair, EndsRun, root, listAfter, onEvery, Agreement}
 use Rattle.agreement.proofs.FairCheck.{everywhere, somewhere, alike, writes, hands, truthful, lacks, fairCall, fairCheck, carriesCall, carriesCheck, checked-fair}
 use Rattle.agreement.proofs.Demand.{demand3}
 use Rattle.cut_list.specs.List.{cutSetting, cutCalls, takeCalls, cutBefore}
@@ -61,7 +61,7 @@ pub record Computed : Type 0 where
   pub list2 : listAfter cutSetting cutCalls 2 ≡ 42
 
 pub computed : Computed
-unfolding encode decode numberAt first any count member union insert within boards setOf size holder isSome tolerated strays covers thirdPlace secondPlace firstPlace covered listed largest height isCut rounds runs firstRound hasRound ceilDiv covering admitting andThen isDepth judgeSettings planning planOn judged occurs mask last childrenFrom children childrenOf levelSize levelStart cellCount ordinal rank place blank cellAt store default value read filter internal nodes inner carried sent due frame only same vote tabulate resolve resolveRoot explained byCell byResolving join passes maskBoard detectG detectAllG detectC detectAllC detectLevels fill counted receive fillMissing copyOwn gather rootOnly nextRound convert runEnded close isTaken judgeNumber judgeOther judgeBoard judgeCells goodPlan goodNumber goodOther goodPosition goodMarks goodDecision goodRecord judgeRecord judgeOpen freshRecord voidRecord judgeBeginning beginning dealing judgeReceiving taking receiving frameOf wireOf judgeSending sending closedValues closing deciding begun answers after caller keeper leaves state step sameList everywhere somewhere alike writes hands truthful lacks fairCall fairCheck carriesCall carriesCheck root listAfter cutSetting cutCalls cutBefore takeCalls
+unfolding encode decode numberAt first any count member union insert within boards setOf size holder isSome tolerated strays covers thirdPlace secondPlace firstPlace covered listed largest height isCut rounds runs firstRound hasRound ceilDiv covering admitting andThen isDepth judgeSettings planning planOn judged occurs mask last childrenFrom children childrenOf levelSize levelStart cellCount ordinal rank place blank cellAt store default value read filter internal nodes inner carried sent due frame only same vote tabulate resolve resolveRoot explained byCell byResolving join passes maskBoard detectG detectAllG detectC detectAllC detectLevels fill counted receive fillMissing copyOwn gather rootOnly nextRound convert runEnded close isTaken judgeNumber judgeOther judgeBoard judgeCells goodPlan goodNumber goodOther goodPosition goodMarks goodDecision goodRecord judgeRecord judgeOpen freshRecord voidRecord judgeBeginning beginning dealing judgeReceiving taking receiving frameOf wireOf judgeSending sending closedValues closing deciding begun answers after caller keeper leaves state afterOne sameList everywhere somewhere alike writes hands truthful lacks fairCall fairCheck carriesCall carriesCheck root listAfter cutSetting cutCalls cutBefore takeCalls
 computed = record {
   accepted = refl;
   cut = refl;

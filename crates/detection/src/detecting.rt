@@ -3,7 +3,6 @@ use codec::value::Value;
 use levels::levels::level_start;
 use plan::plan::Plan;
 use protocol::limits::NODES;
-use protocol::records::Rule;
 use rule_g::rule_g::detect_at;
 use schedule::rounds::Round;
 use schedule::rounds::Run;
@@ -27,13 +26,13 @@ fn detect_list(
     cells: &mut [Value],
 ) -> u8
     requires { ⌜ Scans plan (now holders) board round (now nodes) (now cells) ⌝ }
-    ensures { λ d. ⌜ record { detected = d; cells = now (cells .exit) } ≡ detectAllG plan board run round (labelsOf plan (round .0 - 1) (now (nodes .entry))) (record { detected = list; cells = now (cells .entry) }) ⌝ }
+    ensures { λ d. ⌜ record { list = d; cells = now (cells .exit) } ≡ detectAllG plan board run round (labelsOf plan (round .0 - 1) (now (nodes .entry))) (record { list = list; cells = now (cells .entry) }) ⌝ }
 {
     let start = level_start(plan.n, round.0);
-    let mut detected = list;
+    let mut grown = list;
     let mut i: usize = 0;
     while i < nodes.len() {
-        detected = detect_at(
+        grown = detect_at(
             plan,
             holders,
             board,
@@ -41,12 +40,12 @@ fn detect_list(
             round,
             nodes[i],
             start,
-            detected,
+            grown,
             cells,
         );
         i += 1;
     }
-    detected
+    grown
 }
 
 // Rule G over the internal nodes of the level before the round's; the list.
@@ -60,7 +59,7 @@ pub fn detect_cells(
     cells: &mut [Value],
 ) -> u8
     requires { ⌜ Later plan (now holders) board round (now cells) ⌝ }
-    ensures { λ d. ⌜ record { detected = d; cells = now (cells .exit) } ≡ detectAllG plan board run round (inner plan board (round .0 - 1)) (record { detected = list; cells = now (cells .entry) }) ⌝ }
+    ensures { λ d. ⌜ record { list = d; cells = now (cells .exit) } ≡ detectAllG plan board run round (inner plan board (round .0 - 1)) (record { list = list; cells = now (cells .entry) }) ⌝ }
 {
     let mut nodes = [0u32; NODES];
     let count = inner_nodes(plan, holders, board, round.0 - 1, &mut nodes);

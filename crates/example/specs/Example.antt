@@ -6,7 +6,7 @@ use lib.ListN.{replicate}
 use Rattle.refusals.specs.Outcome.{Outcome, taken, refused}
 use Rattle.plan.specs.Calls.{planOn}
 use Rattle.protocol.specs.Session.{Setting}
-use Rattle.agreement.specs.Lists.{Call, receives, sends, closes, decides, caller, answers, World, step}
+use Rattle.agreement.specs.Lists.{Call, receives, sends, closes, decides, caller, answers, World, afterOne}
 
 -- n = 4, the sets of one board each, dealer 0 with 5, F = {3}. Boards 1 and 2 have records; board 2 lent one cell too many.
 unfoldable pub exampleSetting : Setting
@@ -53,7 +53,7 @@ exampleCalls = exampleAhead ++ exampleRest
 -- What the calls of a list answer, when the boards stand at w.
 unfoldable pub said : World → List Call → List Outcome
 said w [] = []
-said w (c ∷ cs) = answers c (w (caller c)) ∷ said (step w c) cs
+said w (c ∷ cs) = answers c (w (caller c)) ∷ said (afterOne w c) cs
 
 -- What the calls of this one answer: six are turned down.
 unfoldable pub exampleAnswers : List Outcome

@@ -4,8 +4,8 @@ use Prim.Native.Nat.{ℕ, _+_}
 use mathlib.Core.Path.{_≡_, ap, _∙_}
 use mathlib.Core.List.{List}
 use native.Mathlib.Numerals.{add-one}
-use Rattle.protocol.specs.Sheet.{Frame}
-use Rattle.protocol.specs.declared.head.Head.{Head}
+use Rattle.sheet.specs.Sheet.{Frame}
+use Rattle.sheet.specs.declared.head.Head.{Head}
 use Rattle.stage.specs.Stage.{Stage, boardOn, onStage}
 use Rattle.stage.proofs.Turn.{on-same}
 use Rattle.outgoing.specs.Outgoing.{frameFrom, healthyFrame}

@@ -3,17 +3,16 @@ use codec::value::Value;
 use hearing::hearing::hear_from;
 use levels::levels::cell_count;
 use outgoing::written::sender_frame;
-use protocol::head::Head;
 use protocol::limits::FRAME;
 use protocol::records::Record;
+use sheet::head::Head;
 use stage::acting::is_keeper;
 ghost use mathlib.Core.Path.{_≡_};
-ghost use Prim.Native.Nat.{_<_};
 ghost use lib.ListN.{take};
 ghost use Rattle.finding.specs.Frames.{framesFrom};
 ghost use Rattle.stage.specs.Stage.{onStage};
-ghost use Rattle.hearing.specs.Hearing.{Framed, hearFrom};
-ghost use Rattle.exchange.specs.Exchange.{Ready, hearSender, hearSenders};
+ghost use Rattle.hearing.specs.Hearing.{hearFrom};
+ghost use Rattle.exchange.specs.Exchange.{Ready, ReadyFor, ReadyWith, hearSender, hearSenders};
 
 // Every board hears board q, whose frame is the first `own` bytes of the buffer if q is outside F.
 fn hear_frame(
@@ -26,7 +25,7 @@ fn hear_frame(
     records: [Record; 7],
     cells: &mut [Value],
 ) -> [Record; 7]
-    requires { ⌜ Ready head (now cells) (now text) from × Framed own (now frame) ⌝ }
+    requires { ⌜ ReadyWith head (now cells) (now text) from own (now frame) ⌝ }
     ensures { λ r. ⌜ record { recs = r; cells = now (cells .exit) } ≡ onStage head (hearFrom head (framesFrom (now (text .entry)) from) q (take own (now (frame .entry)))) (head .plan .n) (record { recs = records; cells = now (cells .entry) }) ⌝ }
 {
     let n = head.plan.n;
@@ -55,7 +54,7 @@ fn hear_sender(
     records: [Record; 7],
     cells: &mut [Value],
 ) -> [Record; 7]
-    requires { ⌜ Ready head (now cells) (now text) from × (q < head .plan .n) ⌝ }
+    requires { ⌜ ReadyFor head (now cells) (now text) from q ⌝ }
     ensures { λ r. ⌜ record { recs = r; cells = now (cells .exit) } ≡ hearSender head (framesFrom (now (text .entry)) from) q (record { recs = records; cells = now (cells .entry) }) ⌝ }
 {
     let mut frame = [0u8; FRAME];

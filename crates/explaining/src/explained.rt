@@ -1,4 +1,4 @@
-// Both rules at one node, from what its children are worth. `detected` is the list as a set.
+// Both rules at one node, from what its children are worth. `list` is the list as a set.
 use codec::value::Value;
 use plan::plan::Plan;
 use sets::boards::member;
@@ -9,7 +9,7 @@ ghost use Prim.Native.Nat.{_≤_, _<_};
 ghost use lib.Dec.{eqb};
 ghost use Rattle.sets.specs.Sets.{member};
 ghost use Rattle.tables.specs.Tabled.{Tabled};
-ghost use Rattle.voting.specs.Tables.{at, dissenting, explains, explainedBy};
+ghost use Rattle.voting.specs.Tables.{AtChild, at, dissenting, explains, explainedBy};
 
 // Is child c worth something else than v?
 fn dissents(boards: u8, values: [Value; 8], v: Value, c: u8) -> bool
@@ -23,14 +23,14 @@ fn dissents(boards: u8, values: [Value; 8], v: Value, c: u8) -> bool
 }
 
 // The children not worth v, and the boards of the list.
-fn dissenting_from(n: u8, boards: u8, values: [Value; 8], v: Value, detected: u8) -> u8
+fn dissenting_from(n: u8, boards: u8, values: [Value; 8], v: Value, list: u8) -> u8
     requires { ⌜ n ≤ 8 ⌝ }
-    ensures { λ r. ⌜ r ≡ dissenting n boards values v detected ⌝ }
+    ensures { λ r. ⌜ r ≡ dissenting n boards values v list ⌝ }
 {
     let mut s: u8 = 0;
     let mut c: u8 = 0;
     while c < n {
-        if dissents(boards, values, v, c) || member(detected, c) {
+        if dissents(boards, values, v, c) || member(list, c) {
             s = s | (1 << c);
         }
         c += 1;
@@ -39,16 +39,9 @@ fn dissenting_from(n: u8, boards: u8, values: [Value; 8], v: Value, detected: u8
 }
 
 // Does the value of child c explain what the children are worth?
-fn explains_all(
-    plan: Plan,
-    holders: &[u8],
-    boards: u8,
-    values: [Value; 8],
-    detected: u8,
-    c: u8,
-) -> bool
-    requires { ⌜ Tabled plan (now holders) × (c < plan .n) ⌝ }
-    ensures { λ r. ⌜ r ≡ explains plan boards values detected c ⌝ }
+fn explains_all(plan: Plan, holders: &[u8], boards: u8, values: [Value; 8], list: u8, c: u8) -> bool
+    requires { ⌜ AtChild plan (now holders) c ⌝ }
+    ensures { λ r. ⌜ r ≡ explains plan boards values list c ⌝ }
 {
     if member(boards, c) {
         return false;
@@ -60,25 +53,19 @@ fn explains_all(
     tolerates(
         plan,
         holders,
-        dissenting_from(plan.n, boards, values, v, detected),
+        dissenting_from(plan.n, boards, values, v, list),
     )
 }
 
 // Does the value of some child?
-pub fn explained_by(
-    plan: Plan,
-    holders: &[u8],
-    boards: u8,
-    values: [Value; 8],
-    detected: u8,
-) -> bool
+pub fn explained_by(plan: Plan, holders: &[u8], boards: u8, values: [Value; 8], list: u8) -> bool
     requires { ⌜ Tabled plan (now holders) ⌝ }
-    ensures { λ r. ⌜ r ≡ explainedBy plan boards values detected ⌝ }
+    ensures { λ r. ⌜ r ≡ explainedBy plan boards values list ⌝ }
 {
     let n = plan.n;
     let mut c: u8 = 0;
     while c < n {
-        if explains_all(plan, holders, boards, values, detected, c) {
+        if explains_all(plan, holders, boards, values, list, c) {
             return true;
         }
         c += 1;

@@ -1,9 +1,9 @@
--- The settings that a head's line names. A middle layer: what a head names is `headOf` of protocol/Sheet.
+-- The settings that a head's line names. A middle layer: what a head names is `headOf` of sheet/Sheet.
 use Prim.Native.Nat.{ℕ}
 use mathlib.Core.List.{List}
 use Rattle.settings.specs.declared.settings.Settings.{Settings}
 use Rattle.hex.specs.Bytes.{byteAt}
-use Rattle.protocol.specs.Sheet.{spanPlace, dealerPlace, depthPlace}
+use Rattle.sheet.specs.Sheet.{spanPlace, dealerPlace, depthPlace}
 use Rattle.text.specs.Text.{numberFrom}
 
 abbrev pub lineSettings : List ℕ → Settings

@@ -12,8 +12,8 @@ use borrow.Author.Tests.{eqb-true, ltb-true, ltb-false, leb-true, le-leb}
 use Rattle.sets.proofs.Tests.{cases, is-false, and-l, and-r}
 use Rattle.schedule.specs.declared.rounds.Run.{Run}
 use Rattle.schedule.specs.declared.rounds.Round.{Round}
-use Rattle.protocol.specs.Sheet.{Frame}
-use Rattle.protocol.specs.Playing.{findFrame}
+use Rattle.sheet.specs.Sheet.{Frame}
+use Rattle.sheet.specs.Playing.{findFrame}
 use Rattle.finding.specs.Frames.{keyOf, frameKey, rising, skipFrames}
 
 -- The first frame of those that are left.

@@ -1,15 +1,12 @@
--- Frame lines as the code reads them, their keys, and what is found among them. A middle layer: a frame line is `frameLine` of the protocol.
-use Prim.Native.Nat.{ℕ, _+_, _-_, _*_, _/_, min}
+-- Frame lines as the code reads them, their keys. A middle layer: a frame line is `frameLine` of sheet/Sheet.
+use Prim.Native.Nat.{ℕ, _+_, _-_, _*_, _/_}
 use mathlib.Core.Path.{_≡_}
 use mathlib.Core.Bool.{Bool, true, _&&_, cond}
-use mathlib.Core.List.{List, [], _∷_, _++_}
-use mathlib.Core.Option.{Option, some, none}
+use mathlib.Core.List.{List, [], _∷_}
 use lib.Dec.{leb, ltb}
-use lib.ListN.{length, take, drop}
-use Rattle.protocol.specs.Sheet.{Line, Frame, lines}
+use lib.ListN.{length, drop}
+use Rattle.sheet.specs.Sheet.{Line, Frame, lines}
 use Rattle.hex.specs.Bytes.{byteAt, bytesFrom}
-use Rattle.finding.specs.declared.finding.Found.{Found}
-use Rattle.finding.specs.declared.finding.Found.the-variants.{Missing, Values}
 
 -- A frame line by its digits.
 unfoldable pub lineFrame : List ℕ → Frame
@@ -53,24 +50,3 @@ skipFrames least (f ∷ fs) = let rest = skipFrames least fs in cond (ltb (frame
 -- The key of a frame line.
 unfoldable pub lineKey : List ℕ → ℕ
 lineKey line = keyOf (byteAt line 0) (byteAt line 1) (byteAt line 2) (byteAt line 3)
-
--- A frame of the sheet: none, or how many of its values were read.
-unfoldable pub foundSays : Found → Option ℕ
-foundSays Missing = none
-foundSays (Values k) = some k
-
--- What is read of a frame, as many values as the buffer takes: their number, none if there is no frame, and the buffer.
-pub record Read : Type 0 where
-  pub count : Option ℕ
-  pub buffer : List ℕ
-
-unfoldable pub readLength : Option (List ℕ) → ℕ → Option ℕ
-readLength none room = none
-readLength (some vs) room = some (min (length vs) room)
-
-unfoldable pub readValues : Option (List ℕ) → List ℕ → List ℕ
-readValues none buffer = buffer
-readValues (some vs) buffer = take (length buffer) vs ++ drop (length vs) buffer
-
-abbrev pub readInto : Option (List ℕ) → List ℕ → Read
-readInto v buffer = record { count = readLength v (length buffer); buffer = readValues v buffer }

@@ -1,4 +1,4 @@
--- Lines and frames by the place where a line begins. A middle layer: lines are `lines` of the protocol.
+-- Lines and frames by the place where a line begins. A middle layer: lines are `lines` of sheet/Sheet.
 use Prim.Native.Nat.{ℕ, _-_}
 use mathlib.Core.Bool.{cond}
 use mathlib.Core.List.{List}

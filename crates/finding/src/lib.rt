@@ -1,3 +1,3 @@
-// Finding a frame of a sheet.
+// Finding the line of a frame of a sheet.
 pub mod finding;
 pub mod keys;

@@ -19,38 +19,38 @@ use Rattle.frames.specs.Nodes.{entry}
 use Rattle.frames.proofs.Strokes.{fill-word, counted-all, counted-misfit, counted-listed}
 use Rattle.first_round.specs.Takes.{Takes}
 
-module _ (p : Plan) (q detected marks : ℕ) (isDue : Bool) (αs : List Label) (f before : List ℕ) where
-  pub takes-none : isDue ≡ false → Takes p q detected marks isDue αs f before (refused 14) before
+module _ (p : Plan) (q list marks : ℕ) (isDue : Bool) (αs : List Label) (f before : List ℕ) where
+  pub takes-none : isDue ≡ false → Takes p q list marks isDue αs f before (refused 14) before
   unfolding isTaken
   takes-none e = record { answer = rw e refl; cells = refl }
 
-  pub takes-again : isDue ≡ true → member q marks ≡ true → Takes p q detected marks isDue αs f before (refused 15) before
+  pub takes-again : isDue ≡ true → member q marks ≡ true → Takes p q list marks isDue αs f before (refused 15) before
   unfolding isTaken
   takes-again e m = record { answer = rw (e, m) refl; cells = refl }
 
   pub takes-new : isDue ≡ true → member q marks ≡ false
-      → Takes p q detected marks isDue αs f before (taken []) (fill p q αs (counted detected q αs f) before)
+      → Takes p q list marks isDue αs f before (taken []) (fill p q αs (counted list q αs f) before)
   unfolding isTaken
   takes-new e m = record { answer = rw (e, m) refl; cells = refl }
 
 -- A frame of one value.
-module _ (p : Plan) (detected q : ℕ) (f : List ℕ) where
-  pub word-counts : length f ≡ 1 → member q detected ≡ false → entry p (counted detected q ([] ∷ []) f) 0 ≡ value p (getD f 0 0)
+module _ (p : Plan) (list q : ℕ) (f : List ℕ) where
+  pub word-counts : length f ≡ 1 → member q list ≡ false → entry p (counted list q ([] ∷ []) f) 0 ≡ value p (getD f 0 0)
   unfolding entry
-  word-counts e m = rw (counted-all detected q ([] ∷ []) f e m, lt-ltb 0 (length f) (omega arith)) refl
+  word-counts e m = rw (counted-all list q ([] ∷ []) f e m, lt-ltb 0 (length f) (omega arith)) refl
 
-  pub word-misfit : length f ≢ 1 → entry p (counted detected q ([] ∷ []) f) 0 ≡ default p
+  pub word-misfit : length f ≢ 1 → entry p (counted list q ([] ∷ []) f) 0 ≡ default p
   unfolding entry
-  word-misfit ne = rw (counted-misfit detected q ([] ∷ []) f ne) refl
+  word-misfit ne = rw (counted-misfit list q ([] ∷ []) f ne) refl
 
-  pub word-listed : member q detected ≡ true → entry p (counted detected q ([] ∷ []) f) 0 ≡ default p
+  pub word-listed : member q list ≡ true → entry p (counted list q ([] ∷ []) f) 0 ≡ default p
   unfolding entry
-  word-listed m = rw (counted-listed detected q ([] ∷ []) f m) refl
+  word-listed m = rw (counted-listed list q ([] ∷ []) f m) refl
 
   pub takes-root : (marks : ℕ) (isDue : Bool) (before : List ℕ) (v : ℕ) → isDue ≡ true → member q marks ≡ false
-      → v ≡ entry p (counted detected q ([] ∷ []) f) 0 → Takes p q detected marks isDue ([] ∷ []) f before (taken []) (set before 0 v)
+      → v ≡ entry p (counted list q ([] ∷ []) f) 0 → Takes p q list marks isDue ([] ∷ []) f before (taken []) (set before 0 v)
   unfolding isTaken
   takes-root marks isDue before v e m x = record {
-    answer = takes-new p q detected marks isDue ([] ∷ []) f before e m .answer;
-    cells = ap (set before 0) x ∙ sym (fill-word p q (counted detected q ([] ∷ []) f) before);
+    answer = takes-new p q list marks isDue ([] ∷ []) f before e m .answer;
+    cells = ap (set before 0) x ∙ sym (fill-word p q (counted list q ([] ∷ []) f) before);
   }

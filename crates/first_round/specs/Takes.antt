@@ -11,6 +11,6 @@ use Rattle.protocol.specs.Rounds.{fill, counted}
 use Rattle.protocol.specs.Calls.{isTaken}
 
 -- A frame of board q, with the values vs, for the labels αs: 14 if it is not due, 15 if one was taken; else it is stored.
-pub record Takes (p : Plan) (q detected marks : ℕ) (isDue : Bool) (αs : List Label) (vs before : List ℕ) (o : Outcome) (after : List ℕ) : Type 0 where
+pub record Takes (p : Plan) (q list marks : ℕ) (isDue : Bool) (αs : List Label) (vs before : List ℕ) (o : Outcome) (after : List ℕ) : Type 0 where
   pub answer : o ≡ cond isDue (cond (member q marks) (refused 15) (taken [])) (refused 14)
-  pub cells : after ≡ cond (isTaken o) (fill p q αs (counted detected q αs vs) before) before
+  pub cells : after ≡ cond (isTaken o) (fill p q αs (counted list q αs vs) before) before

@@ -9,21 +9,18 @@ use refusals::refusal::Verdict;
 use sets::boards::member;
 ghost use mathlib.Core.Path.{_≡_};
 ghost use mathlib.Core.List.{[], _∷_};
-ghost use Prim.Native.Nat.{_≤_, _<_};
 ghost use lib.Dec.{eqb};
-ghost use lib.ListN.{length};
 ghost use Rattle.codec.specs.Codec.{decode};
 ghost use Rattle.refusals.specs.Outcome.{verdict};
-ghost use Rattle.tree.specs.Places.{cellCount};
 ghost use Rattle.protocol.specs.Rounds.{counted};
-ghost use Rattle.frames.specs.Nodes.{entry};
+ghost use Rattle.frames.specs.Nodes.{First, entry};
 ghost use Rattle.first_round.specs.Takes.{Takes};
 
 // The dealer's value; the default for a frame of another length, or of a listed dealer.
-fn word_of(plan: Plan, detected: u8, q: u8, frame: &[u8]) -> Value
-    ensures { λ v. ⌜ v ≡ entry plan (counted detected q ([] ∷ []) (decode (now (frame .entry)))) 0 ⌝ }
+fn word_of(plan: Plan, list: u8, q: u8, frame: &[u8]) -> Value
+    ensures { λ v. ⌜ v ≡ entry plan (counted list q ([] ∷ []) (decode (now (frame .entry)))) 0 ⌝ }
 {
-    if value_count(frame) == 1 && !member(as_set(detected), q) {
+    if value_count(frame) == 1 && !member(as_set(list), q) {
         return plan.value(value_at(frame, 0));
     }
     plan.default()
@@ -32,14 +29,14 @@ fn word_of(plan: Plan, detected: u8, q: u8, frame: &[u8]) -> Value
 // Round 1, the dealer's frame: 14, 15, then it is stored at the root.
 pub fn take_word(
     plan: Plan,
-    detected: u8,
+    list: u8,
     marks: u8,
     q: u8,
     frame: &[u8],
     cells: &mut [Value],
 ) -> Verdict
-    requires { ⌜ (plan .dealer < plan .n) × (cellCount (plan .n) ≤ length (now cells)) ⌝ }
-    ensures { λ v. ⌜ Takes plan q detected marks (eqb q (plan .dealer)) ([] ∷ []) (decode (now (frame .entry))) (now (cells .entry)) (verdict v) (now (cells .exit)) ⌝ }
+    requires { ⌜ First plan (now cells) ⌝ }
+    ensures { λ v. ⌜ Takes plan q list marks (eqb q (plan .dealer)) ([] ∷ []) (decode (now (frame .entry))) (now (cells .entry)) (verdict v) (now (cells .exit)) ⌝ }
 {
     let dealer = plan.dealer;
     let again = member(marks, q);
@@ -49,6 +46,6 @@ pub fn take_word(
     if again {
         return Verdict::Refused(Refusal::AlreadyTaken);
     }
-    cells[0] = word_of(plan, detected, q, frame);
+    cells[0] = word_of(plan, list, q, frame);
     Verdict::Accepted
 }

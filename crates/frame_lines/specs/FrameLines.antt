@@ -1,4 +1,4 @@
--- What is judged of a frame line, by its digits. A middle layer: by a line's bytes it is `goodFrame` of the protocol.
+-- What is judged of a frame line, by its digits. A middle layer: by a line's bytes it is `goodFrame` of sheet/Sheet.
 use Prim.Native.Nat.{ℕ, _/_}
 use mathlib.Core.Bool.{Bool, not, _&&_, cond}
 use mathlib.Core.List.{List, []}
@@ -11,7 +11,7 @@ use Rattle.schedule.specs.declared.rounds.Round.{Round}
 use Rattle.schedule.specs.Schedule.{hasRound}
 use Rattle.refusals.specs.Outcome.{Outcome, taken, refused}
 use Rattle.protocol.specs.Nodes.{due}
-use Rattle.protocol.specs.Sheet.{Line}
+use Rattle.sheet.specs.Sheet.{Line}
 use Rattle.hex.specs.Bytes.{isText}
 use Rattle.finding.specs.Frames.{lineFrame, lineKey}
 

@@ -13,13 +13,12 @@ use Rattle.plan.specs.Calls.{judged}
 use Rattle.tables.specs.Tabled.{Tabled}
 use Rattle.schedule.specs.declared.rounds.Round.{Round}
 use Rattle.schedule.specs.Schedule.{rounds}
-use Rattle.tree.specs.Places.{cellCount}
 use Rattle.protocol.specs.declared.records.Record.{Record}
 use Rattle.protocol.specs.Rounds.{Board}
 use Rattle.protocol.specs.Calls.{judgeOpen}
 use Rattle.protocol.proofs.Judgement.{Good, plan-facts, open-facts}
 use Rattle.walk.proofs.Whole.{rounds-most}
-use Rattle.frames.specs.Nodes.{Standing, Stands}
+use Rattle.frames.specs.Nodes.{Standing, InRound}
 
 -- An accepted plan lists at most 32 sets.
 pub few-sets : (p : Plan) → judged p .number ≡ 0 → length (listed p) ≤ 255
@@ -54,9 +53,8 @@ good-stands r g holders t =
     standing (r .plan) holders (r .board) (r .round) (g .plan-good) (g .below) (g .other) (g .position .round-low) (g .position .round-high) t
 
 -- An open board stands in its round, with any table that is the plan's.
-pub open-stands : (b : Board) → judgeOpen b .number ≡ 0
-    → Stands (b .rec .plan) (b .rec .board) (b .rec .round) × (cellCount (b .rec .plan .n) ≤ length (b .cells))
-open-stands b e = let o = open-facts b e in (good-stands (b .rec) (o .good) _ refl, o .room)
+pub open-stands : (b : Board) → judgeOpen b .number ≡ 0 → InRound (b .rec .plan) (b .rec .board) (b .rec .round) (b .cells)
+open-stands b e = let o = open-facts b e in record { standing = good-stands (b .rec) (o .good) _ refl; enough = o .room }
 
-pub with-table : {p : Plan} {i : ℕ} {k : Round} (holders : List ℕ) → Stands p i k → holders ≡ holderTable (listed p) → Standing p holders i k
+pub with-table : {p : Plan} {i : ℕ} {k : Round} (holders : List ℕ) → Standing p (holderTable (listed p)) i k → holders ≡ holderTable (listed p) → Standing p holders i k
 with-table {p} {i} {k} holders s t = subst (λ h. Standing p h i k) (sym t) s

@@ -63,16 +63,16 @@ write-step p cells out αs u v l e =
     ∙ ap (λ k. sofar p cells αs k out) (let z : suc u ≡ u + 1 = omega arith in z)
 
 -- What a frame counts as.
-module _ (detected q : ℕ) (αs : List Label) (f : List ℕ) where
-  pub counted-all : length f ≡ length αs → member q detected ≡ false → counted detected q αs f ≡ f
+module _ (list q : ℕ) (αs : List Label) (f : List ℕ) where
+  pub counted-all : length f ≡ length αs → member q list ≡ false → counted list q αs f ≡ f
   unfolding counted
   counted-all e m = rw (eq-eqb (length f) (length αs) e, m)
 
-  pub counted-misfit : length f ≢ length αs → counted detected q αs f ≡ []
+  pub counted-misfit : length f ≢ length αs → counted list q αs f ≡ []
   unfolding counted
   counted-misfit ne = rw (ne-eqb (length f) (length αs) ne)
 
-  pub counted-listed : member q detected ≡ true → counted detected q αs f ≡ []
+  pub counted-listed : member q list ≡ true → counted list q αs f ≡ []
   unfolding counted
   counted-listed m = cases (eqb (length f) (length αs)) (λ e. rw (e, m)) (λ e. rw e)
 

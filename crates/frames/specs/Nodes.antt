@@ -32,9 +32,19 @@ pub record Standing (p : Plan) (holders : List ℕ) (board : ℕ) (k : Round) : 
   pub rounds-most : rounds p .0 ≤ p .n
   pub table : holders ≡ holderTable (listed p)
 
+-- Any round, with cells enough.
+pub record AnyRound (p : Plan) (holders : List ℕ) (board : ℕ) (k : Round) (cells : List ℕ) : Type 0 where
+  pub standing : Standing p holders board k
+  pub enough : cellCount (p .n) ≤ length cells
+
 -- The same, with the plan's own table of holders.
-abbrev pub Stands : Plan → ℕ → Round → Type 0
-Stands p i k = Standing p (holderTable (listed p)) i k
+abbrev pub InRound : Plan → ℕ → Round → List ℕ → Type 0
+InRound p i k cells = AnyRound p (holderTable (listed p)) i k cells
+
+-- The first round: a dealer that is a board, with cells enough.
+pub record First (p : Plan) (cells : List ℕ) : Type 0 where
+  pub dealer-below : p .dealer < p .n
+  pub enough : cellCount (p .n) ≤ length cells
 
 -- A round after the first, with cells enough.
 pub record Later (p : Plan) (holders : List ℕ) (board : ℕ) (k : Round) (cells : List ℕ) : Type 0 where

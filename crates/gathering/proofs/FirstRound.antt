@@ -55,13 +55,13 @@ module _ {p : Plan} {holders : List ℕ} {i : ℕ} {k : Round} (s : Standing p h
   own-none = rw (eq-eqb (k .0) 1 one, ne-eqb i (p .dealer) (s .other))
 
   -- Rule G does not run in round 1.
-  gathered-word : (run : Run) (detected : ℕ) → gathered p i run k marks detected cells ≡ record { detected = detected; cells = rooted }
+  gathered-word : (run : Run) (list : ℕ) → gathered p i run k marks list cells ≡ record { list = list; cells = rooted }
   unfolding gathered inner nodes filter detectAllG copyOwn fill
-  gathered-word run detected =
+  gathered-word run list =
       rw ((let z : k .0 - 1 ≡ 0 = omega arith in z), own-none, above (p .n) (s .dealer-below) (omega arith)) refl
 
-  pub gathers-word : (run : Run) (detected : ℕ) (after : List ℕ) → after ≡ rooted → Gathers p i run k marks detected detected cells after
-  gathers-word run detected after e = record {
-    list-is = sym (ap (λ (x : Scan). x .detected) (gathered-word run detected));
-    cells-are = e ∙ sym (ap (λ (x : Scan). x .cells) (gathered-word run detected));
+  pub gathers-word : (run : Run) (list : ℕ) (after : List ℕ) → after ≡ rooted → Gathers p i run k marks list list cells after
+  gathers-word run list after e = record {
+    list-is = sym (ap (λ (x : Scan). x .list) (gathered-word run list));
+    cells-are = e ∙ sym (ap (λ (x : Scan). x .cells) (gathered-word run list));
   }

@@ -10,10 +10,10 @@ use Rattle.protocol.specs.Detection.{Scan, detectAllG}
 use Rattle.protocol.specs.Rounds.{fillMissing, copyOwn}
 
 unfoldable pub gathered : Plan → ℕ → Run → Round → ℕ → ℕ → List ℕ → Scan
-gathered p i t k marks detected cells =
-    detectAllG p i t k (inner p i (k .0 - 1)) (record { detected = detected; cells = copyOwn p i k (fillMissing p i k marks (p .n) cells) })
+gathered p i t k marks list cells =
+    detectAllG p i t k (inner p i (k .0 - 1)) (record { list = list; cells = copyOwn p i k (fillMissing p i k marks (p .n) cells) })
 
 -- The list and the cells after it.
-pub record Gathers (p : Plan) (i : ℕ) (t : Run) (k : Round) (marks detected found : ℕ) (before after : List ℕ) : Type 0 where
-  pub list-is : found ≡ gathered p i t k marks detected before .detected
-  pub cells-are : after ≡ gathered p i t k marks detected before .cells
+pub record Gathers (p : Plan) (i : ℕ) (t : Run) (k : Round) (marks list found : ℕ) (before after : List ℕ) : Type 0 where
+  pub list-is : found ≡ gathered p i t k marks list before .list
+  pub cells-are : after ≡ gathered p i t k marks list before .cells

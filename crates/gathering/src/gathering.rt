@@ -9,17 +9,15 @@ use schedule::rounds::Run;
 use sets::boards::member;
 ghost use mathlib.Core.Path.{_≡_};
 ghost use mathlib.Core.Bool.{cond};
-ghost use Prim.Native.Nat.{_≤_, _<_};
-ghost use lib.ListN.{length, set};
+ghost use lib.ListN.{set};
 ghost use Rattle.sets.specs.Sets.{member};
 ghost use Rattle.plan.specs.Values.{default};
-ghost use Rattle.tree.specs.Places.{cellCount};
-ghost use Rattle.frames.specs.Nodes.{Standing, Later};
+ghost use Rattle.frames.specs.Nodes.{AnyRound, First, Later};
 ghost use Rattle.gathering.specs.Gathered.{Gathers};
 
 // Round 1: the default at the root, unless the dealer's frame was taken.
 fn gather_word(plan: Plan, marks: u8, cells: &mut [Value])
-    requires { ⌜ (plan .dealer < plan .n) × (cellCount (plan .n) ≤ length (now cells)) ⌝ }
+    requires { ⌜ First plan (now cells) ⌝ }
     ensures { λ _. ⌜ now (cells .exit) ≡ cond (member (plan .dealer) marks) (now (cells .entry)) (set (now (cells .entry)) 0 (default plan)) ⌝ }
 {
     let dealer = plan.dealer;
@@ -59,7 +57,7 @@ pub fn gather_round(
     list: u8,
     cells: &mut [Value],
 ) -> u8
-    requires { ⌜ Standing plan (now holders) board round × (cellCount (plan .n) ≤ length (now cells)) ⌝ }
+    requires { ⌜ AnyRound plan (now holders) board round (now cells) ⌝ }
     ensures { λ d. ⌜ Gathers plan board run round marks list d (now (cells .entry)) (now (cells .exit)) ⌝ }
 {
     let k = round.0;

@@ -20,7 +20,7 @@ use Rattle.settings.specs.Planning.{planning}
 use Rattle.plan.specs.Calls.{planned}
 use Rattle.refusals.proofs.Outcomes.{refused-first}
 use Rattle.plan.proofs.Accepted.{accepted}
-use Rattle.protocol.specs.Sheet.{headOf, judgeHead}
+use Rattle.sheet.specs.Sheet.{headOf, judgeHead}
 use Rattle.hex.specs.Bytes.{byteAt, bytesFrom}
 use Rattle.fields.specs.Settings.{lineSettings}
 use Rattle.hex.proofs.Bytes.{bytes-length, bytes-drop, bytes-take, all, all-at}

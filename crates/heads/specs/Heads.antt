@@ -5,7 +5,7 @@ use mathlib.Core.List.{List}
 use lib.ListN.{length}
 use Rattle.refusals.specs.Outcome.{verdict}
 use Rattle.hex.specs.Bytes.{bytesFrom}
-use Rattle.protocol.specs.Sheet.{headOf, judgeHead}
+use Rattle.sheet.specs.Sheet.{headOf, judgeHead}
 use Rattle.heads.specs.declared.head.ReadHead.{ReadHead}
 
 -- A head that was read: its judgement, and the head that its bytes name if it is accepted.

@@ -5,13 +5,13 @@ use fields::fields::sets_of;
 use fields::fields::settings_of;
 use hex::reading::byte_at;
 use plan::plan::Plan;
-use protocol::head::COUNT;
-use protocol::head::Head;
-use protocol::head::SETS;
-use protocol::head::WORD;
 use refusals::refusal::Refusal;
 use refusals::refusal::Verdict;
 use refusals::refusal::and_then;
+use sheet::head::COUNT;
+use sheet::head::Head;
+use sheet::head::SETS;
+use sheet::head::WORD;
 use text::lines::number_at;
 ghost use Rattle.heads.specs.Heads.{HeadRead};
 

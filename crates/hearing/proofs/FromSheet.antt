@@ -10,12 +10,12 @@ use Rattle.protocol.specs.Limits.{frameRoom}
 use Rattle.protocol.specs.Rounds.{Board}
 use Rattle.protocol.specs.Calls.{receiving}
 use Rattle.protocol.specs.Session.{handIn}
-use Rattle.protocol.specs.Playing.{decoded}
+use Rattle.sheet.specs.Playing.{decoded}
 use Rattle.protocol.proofs.Few.{overlong}
-use Rattle.finding.specs.declared.finding.Found.{Found}
-use Rattle.finding.specs.declared.finding.Found.the-variants.{Missing, Values}
-use Rattle.finding.specs.Frames.{Read, foundSays, readLength, readInto}
-use Rattle.finding.proofs.FrameSearch.{read-taken, read-frame-is, read-missed}
+use Rattle.fetching.specs.declared.fetching.Found.{Found}
+use Rattle.fetching.specs.declared.fetching.Found.the-variants.{Missing, Values}
+use Rattle.fetching.specs.Fetched.{Read, foundSays, readLength, readInto}
+use Rattle.fetching.proofs.FetchedFrame.{read-taken, read-frame-is, read-missed}
 
 -- With what the code has in hand: the buffer as it came, the answer, and the buffer with what was read.
 module _ (v : Option (List ℕ)) (buffer : List ℕ) (room : length buffer ≡ frameRoom) (found : Found) (last : List ℕ)

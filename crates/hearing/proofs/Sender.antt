@@ -7,11 +7,11 @@ use mathlib.Core.List.{List}
 use Rattle.sets.specs.Sets.{member}
 use Rattle.sets.proofs.Tests.{cases}
 use Rattle.protocol.specs.Rounds.{Board}
-use Rattle.protocol.specs.Sheet.{Frame}
+use Rattle.sheet.specs.Sheet.{Frame}
 use Rattle.codec.specs.Codec.{decode}
 use mathlib.Core.Option.{some}
 use Rattle.protocol.specs.Session.{handIn}
-use Rattle.protocol.specs.declared.head.Head.{Head}
+use Rattle.sheet.specs.declared.head.Head.{Head}
 use Rattle.hearing.specs.Hearing.{inSheet, told, hearFrom}
 
 -- What a board hears from board q.

@@ -7,18 +7,29 @@ use mathlib.Core.Option.{Option, some}
 use lib.ListN.{length, take}
 use Rattle.codec.specs.Codec.{decode}
 use Rattle.sets.specs.Sets.{member}
-use Rattle.protocol.specs.declared.head.Head.{Head}
+use Rattle.sheet.specs.declared.head.Head.{Head}
 use Rattle.protocol.specs.declared.records.Record.{Record}
 use Rattle.protocol.specs.Limits.{frameRoom}
 use Rattle.protocol.specs.Rounds.{Board}
 use Rattle.protocol.specs.Session.{handIn}
-use Rattle.protocol.specs.Sheet.{Frame}
-use Rattle.protocol.specs.Playing.{findFrame, decoded}
+use Rattle.sheet.specs.Sheet.{Frame}
+use Rattle.sheet.specs.Playing.{findFrame, decoded}
+use Rattle.finding.specs.Frames.{Rising}
 
 -- The length of a frame, and the buffer that it stands in.
 pub record Framed (own : ℕ) (frame : List ℕ) : Type 0 where
   pub fits : own ≤ frameRoom
   pub whole : length frame ≡ frameRoom
+
+-- Frame lines that rise, and a buffer with room for every frame.
+pub record Readable (text : List ℕ) (from : ℕ) (frame : List ℕ) : Type 0 where
+  pub rising : Rising text from
+  pub whole : length frame ≡ frameRoom
+
+-- Frame lines that rise, and a frame in its buffer.
+pub record Hearable (text : List ℕ) (from own : ℕ) (frame : List ℕ) : Type 0 where
+  pub rising : Rising text from
+  pub framed : Framed own frame
 
 -- What the sheet's frames have from board q for the board with record r, at its run and round.
 abbrev pub inSheet : List Frame → ℕ → Record → Option (List ℕ)

@@ -1,18 +1,16 @@
 // A board hears another.
 use codec::value::Value;
-use finding::finding::Found;
-use finding::finding::read_frame;
-use protocol::head::Head;
+use fetching::fetching::Found;
+use fetching::fetching::read_frame;
 use protocol::records::Record;
 use receiving::receiving::receive;
 use sets::boards::member;
+use sheet::head::Head;
 ghost use mathlib.Core.Path.{_≡_};
-ghost use lib.ListN.{length};
-ghost use Rattle.protocol.specs.Limits.{frameRoom};
 ghost use Rattle.protocol.specs.Rounds.{boardWith};
 ghost use Rattle.protocol.specs.Session.{handIn};
-ghost use Rattle.finding.specs.Frames.{framesFrom, Rising};
-ghost use Rattle.hearing.specs.Hearing.{Framed, inSheet, Hears};
+ghost use Rattle.finding.specs.Frames.{framesFrom};
+ghost use Rattle.hearing.specs.Hearing.{Readable, Hearable, inSheet, Hears};
 
 // A board hears what the sheet has for it from the faulty board q; the frame is read into the buffer.
 fn hear_faulty(
@@ -23,7 +21,7 @@ fn hear_faulty(
     frame: &mut [u8],
     cells: &mut [Value],
 ) -> Record
-    requires { ⌜ Rising (now text) from × (length (now frame) ≡ frameRoom) ⌝ }
+    requires { ⌜ Readable (now text) from (now frame) ⌝ }
     ensures { λ x. ⌜ boardWith x (now (cells .exit)) ≡ handIn q (inSheet (framesFrom (now (text .entry)) from) q r) (boardWith r (now (cells .entry))) ⌝ }
 {
     let run = r.run;
@@ -48,7 +46,7 @@ pub fn hear_from(
     frame: &mut [u8],
     cells: &mut [Value],
 ) -> Record
-    requires { ⌜ Rising (now text) from × Framed own (now frame) ⌝ }
+    requires { ⌜ Hearable (now text) from own (now frame) ⌝ }
     ensures { λ x. ⌜ Hears head (framesFrom (now (text .entry)) from) q own (now (frame .entry)) (boardWith r (now (cells .entry))) (now (frame .exit)) (boardWith x (now (cells .exit))) ⌝ }
 {
     if member(head.faulty, q) {

@@ -18,7 +18,8 @@ use Rattle.sets.proofs.Tests.{cases, clash, is-false, same-test, and-l, and-r, 
 use Rattle.sets.proofs.Search.{first-le, first-same, first-either, seek-start, opened}
 use Rattle.sets.proofs.Member.{same-members, member-half, member-even, even-member, member-low, member-high, insert-above, member-insert, within-member, member-within}
 use Rattle.sets.proofs.Tolerated.{holds, holder-empty, holder-at, holder-none}
-use Rattle.holders.proofs.Held.{tabulated-length, tabulated-at, tabulated-by, held-some, held-none}
+use Rattle.sets.proofs.Tabulated.{tabulate-length, tabulate-at}
+use Rattle.holders.proofs.Held.{tabulate-by, held-some, held-none}
 
 -- The earlier of two places is that of the first set that passes one of the two tests.
 place-either : (f g : ℕ → Bool) (k : ℕ) → k ≤ 255 → min (placeFrom f k 0) (placeFrom g k 0) ≡ placeFrom (λ p. f p || g p) k 0
@@ -149,15 +150,15 @@ placeAt sets i c = placeFrom (λ p. near i c (getD sets p 0)) (length sets) 0
 module _ (sets : List ℕ) where
   pub stage-length : (i : ℕ) → length (stage sets i) ≡ 128
   unfolding stage
-  stage-length i = tabulated-length _ 0 128
+  stage-length i = tabulate-length _ 0 128
 
   stage-at : (i c : ℕ) → c < 128 → getD (stage sets i) c 0 ≡ placeAt sets i c
   unfolding stage
-  stage-at i c l = tabulated-at (λ c. placeAt sets i c) 128 c 0 l
+  stage-at i c l = tabulate-at (λ c. placeAt sets i c) 128 c 0 l
 
   pub stage-by : (i : ℕ) (l : List ℕ) → length l ≡ 128 → ((c : ℕ) → c < 128 → getD l c 0 ≡ placeAt sets i c) → l ≡ stage sets i
   unfolding stage
-  stage-by i l e h = tabulated-by (λ c. placeAt sets i c) 128 l e h
+  stage-by i l e h = tabulate-by (λ c. placeAt sets i c) 128 l e h
 
   -- A set that is not empty stands at its holder's place.
   held-place : (a : ℕ) → a ≢ 0 → a < 128 → placeAt sets 7 a ≡ heldAt sets a
@@ -173,7 +174,7 @@ module _ (sets : List ℕ) where
   pub filled : set (stage sets 7) 0 0 ≡ holderTable sets
   unfolding holderTable
   filled =
-      tabulated-by (heldAt sets) 128 (set (stage sets 7) 0 0) (length-set (stage sets 7) 0 0 ∙ stage-length 7)
+      tabulate-by (heldAt sets) 128 (set (stage sets 7) 0 0) (length-set (stage sets 7) 0 0 ∙ stage-length 7)
       (λ c l. cases (eqb c 0)
       (λ e. let z : c ≡ 0 = eqb-true c 0 e in
       rw z (getD-set-same (stage sets 7) 0 0 0 (omega (arith, stage-length 7)) ∙ sym (held-some sets 0 0 (holder-empty sets))))
@@ -192,8 +193,8 @@ module _ (sets : List ℕ) where
     pub fold-stage : (i : ℕ) → folding (stage sets i) ≡ stage sets (suc i)
     unfolding folding
     fold-stage i =
-        stage-by (suc i) (folding (stage sets i)) (tabulated-length (foldedAt (stage sets i)) 0 128)
-        (λ c l. tabulated-at (foldedAt (stage sets i)) 128 c 0 l ∙ fold-at i c l)
+        stage-by (suc i) (folding (stage sets i)) (tabulate-length (foldedAt (stage sets i)) 0 128)
+        (λ c l. tabulate-at (foldedAt (stage sets i)) 128 c 0 l ∙ fold-at i c l)
 
 -- The loops, a turn each. One more fold of a pair.
 pub fold-more : (from to : List ℕ) (t both : ℕ) → both ≡ min (getD from t 0) (getD from (64 + t) 0) → t < 64 → length to ≡ 128 → ((c : ℕ) → c < 2 * t → getD to c 0 ≡ foldedAt from c)
@@ -220,7 +221,7 @@ fold-more from to t both eb l whole h c lc =
 
 pub fold-by : (from to : List ℕ) → length to ≡ 128 → ((c : ℕ) → c < 128 → getD to c 0 ≡ foldedAt from c) → to ≡ folding from
 unfolding folding
-fold-by from to e h = tabulated-by (foldedAt from) 128 to e h
+fold-by from to e h = tabulate-by (foldedAt from) 128 to e h
 
 -- One more listed set, from the last to the first.
 pub list-more : (sets table : List ℕ) (i : ℕ) → 0 < i → i ≤ length sets → length table ≡ 128

@@ -1,6 +1,6 @@
 -- The laws of the table of holders. Whoever speaks of it goes by these.
 -- Assumes nothing.
-use Prim.Native.Nat.{ℕ, zero, suc, _+_, _≤_, _<_}
+use Prim.Native.Nat.{ℕ, zero, suc, _≤_, _<_}
 use mathlib.Core.Path.{_≡_, refl, sym, ap, _∙_}
 use mathlib.Core.Bool.{not}
 use mathlib.Core.List.{List, [], _∷_}
@@ -12,23 +12,11 @@ use lib.Seq.{ext-getD}
 use borrow.Author.Tests.{eqb-true, eqb-false, ne-eqb, ltb-true, ltb-false}
 use Rattle.sets.specs.Search.{first}
 use Rattle.sets.specs.Structure.{holder, isSome, tolerated}
-use Rattle.holders.specs.Holders.{heldAt, tabulated, holderTable}
+use Rattle.sets.specs.Tabulate.{tabulate}
+use Rattle.holders.specs.Holders.{heldAt, holderTable}
+use Rattle.sets.proofs.Tabulated.{tabulate-length, tabulate-at}
 use Rattle.sets.proofs.Tests.{cases}
 use Rattle.sets.proofs.Tolerated.{holds, holder-empty, holder-at, holder-none}
-
-pub tabulated-length : (f : ℕ → ℕ) (i k : ℕ) → length (tabulated f i k) ≡ k
-unfolding tabulated
-tabulated-length f i zero = refl
-tabulated-length f i (suc k) = ap suc (tabulated-length f (suc i) k)
-
-tabulated-on : (f : ℕ → ℕ) (i k j d : ℕ) → j < k → getD (tabulated f i k) j d ≡ f (i + j)
-unfolding tabulated
-tabulated-on f i zero j d l = absurd (omega arith)
-tabulated-on f i (suc k) zero d l = ap f (omega arith)
-tabulated-on f i (suc k) (suc j) d l = tabulated-on f (suc i) k j d (omega arith) ∙ ap f (omega arith)
-
-pub tabulated-at : (f : ℕ → ℕ) (k j d : ℕ) → j < k → getD (tabulated f 0 k) j d ≡ f j
-tabulated-at f k j d l = tabulated-on f 0 k j d l ∙ ap f (let z : 0 + j ≡ j = omega arith in z)
 
 -- Reading an element that is there needs no default.
 pub getD-any : (l : List ℕ) (i a b : ℕ) → i < length l → getD l i a ≡ getD l i b
@@ -37,19 +25,19 @@ getD-any (x ∷ l) zero a b h = refl
 getD-any (x ∷ l) (suc i) a b h = getD-any l i a b (omega arith)
 
 -- A list with these values is the table.
-pub tabulated-by : (f : ℕ → ℕ) (k : ℕ) (l : List ℕ) → length l ≡ k → ((j : ℕ) → j < k → getD l j 0 ≡ f j) → l ≡ tabulated f 0 k
-tabulated-by f k l e h =
-    ext-getD 0 l (tabulated f 0 k) (e ∙ sym (tabulated-length f 0 k))
-    (λ j lj. let b : j < k = omega arith in h j b ∙ sym (tabulated-at f k j 0 b))
+pub tabulate-by : (f : ℕ → ℕ) (k : ℕ) (l : List ℕ) → length l ≡ k → ((j : ℕ) → j < k → getD l j 0 ≡ f j) → l ≡ tabulate f 0 k
+tabulate-by f k l e h =
+    ext-getD 0 l (tabulate f 0 k) (e ∙ sym (tabulate-length f 0 k))
+    (λ j lj. let b : j < k = omega arith in h j b ∙ sym (tabulate-at f k j 0 b))
 
 module _ (sets : List ℕ) where
   pub table-length : length (holderTable sets) ≡ 128
   unfolding holderTable
-  table-length = tabulated-length (heldAt sets) 0 128
+  table-length = tabulate-length (heldAt sets) 0 128
 
   pub table-at : (a : ℕ) → a < 128 → getD (holderTable sets) a 255 ≡ heldAt sets a
   unfolding holderTable
-  table-at a l = tabulated-at (heldAt sets) 128 a 255 l
+  table-at a l = tabulate-at (heldAt sets) 128 a 255 l
 
   -- A set that is held is so at a place of the list, or at 0.
   pub held-some : (a i : ℕ) → holder sets a ≡ some i → heldAt sets a ≡ i

@@ -9,7 +9,7 @@ use mathlib.Core.List.{List}
 use lib.Dec.{eqb, ltb}
 use lib.ListN.{length, getD}
 use Rattle.sets.specs.Search.{first}
-use Rattle.holders.specs.Holders.{tabulated}
+use Rattle.sets.specs.Tabulate.{tabulate}
 
 -- The first place from i on, of k, that passes the test, as a byte: FF if none does.
 unfoldable pub placeFrom : (ℕ → Bool) → ℕ → ℕ → ℕ
@@ -22,11 +22,11 @@ near (suc i) c s = (eqb (c % 2) 0 && near i (c / 2) s) || near i (64 + c / 2) s
 
 -- The table after i folds.
 unfoldable pub stage : List ℕ → ℕ → List ℕ
-stage sets i = tabulated (λ c. placeFrom (λ p. near i c (getD sets p 0)) (length sets) 0) 0 128
+stage sets i = tabulate (λ c. placeFrom (λ p. near i c (getD sets p 0)) (length sets) 0) 0 128
 
 -- One fold.
 unfoldable pub foldedAt : List ℕ → ℕ → ℕ
 foldedAt from c = let with = getD from (64 + c / 2) 0 in cond (eqb (c % 2) 0) (min (getD from (c / 2) 0) with) with
 
 unfoldable pub folding : List ℕ → List ℕ
-folding from = tabulated (foldedAt from) 0 128
+folding from = tabulate (foldedAt from) 0 128

@@ -2,9 +2,8 @@
 use holders::table::holds;
 use plan::plan::Plan;
 ghost use mathlib.Core.Path.{_≡_};
-ghost use Prim.Native.Nat.{_<_, _^_};
 ghost use Rattle.holders.specs.Holders.{Asked};
-ghost use Rattle.tables.specs.Tabled.{Tabled};
+ghost use Rattle.tables.specs.Tabled.{Askable};
 ghost use Rattle.internal.specs.Tests.{isOpen, barred, isInternal};
 
 // The boards that a node is without if it is internal to a board: none, nodes are internal to all boards alike.
@@ -27,7 +26,7 @@ pub fn is_open(holders: &[u8], without: u8, boards: u8) -> bool
 
 // Is a node with these boards internal to a board, if it is above the last level?
 pub fn is_internal(plan: Plan, holders: &[u8], board: u8, boards: u8) -> bool
-    requires { ⌜ Tabled plan (now holders) × (boards < 2 ^ plan .n) ⌝ }
+    requires { ⌜ Askable plan (now holders) boards ⌝ }
     ensures { λ r. ⌜ r ≡ isInternal plan board boards ⌝ }
 {
     is_open(holders, barred_to(plan, board), boards)

@@ -64,7 +64,7 @@ fn has_good_fields(r: Record) -> bool
     let decided = r.decided;
     let decision = r.decision;
     let span = r.plan.span;
-    if !within(as_set(r.detected), all) {
+    if !within(as_set(r.list), all) {
         return false;
     }
     if !within(r.marks, all) {

@@ -39,7 +39,7 @@ fn main() {
         scatter(&mut cells);
         let closed = close(r, &mut cells);
         out[0] = closed.rec.decision;
-        out[1] = as_set(closed.rec.detected);
+        out[1] = as_set(closed.rec.list);
         i += 1;
     }
     io::write_all(STDOUT_FILENO, &out);

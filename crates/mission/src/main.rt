@@ -51,6 +51,6 @@ fn main() {
         Decision::Value(v) => v,
         Decision::Refused(_) => 255,
     };
-    let out = [frame[0], decision, as_set(last.detected)];
+    let out = [frame[0], decision, as_set(last.list)];
     io::write_all(STDOUT_FILENO, &out);
 }

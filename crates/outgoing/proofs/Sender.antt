@@ -14,8 +14,8 @@ use Rattle.protocol.specs.Limits.{frameRoom}
 use Rattle.tree.specs.Places.{cellCount}
 use Rattle.protocol.specs.Rounds.{boardWith, Board}
 use Rattle.protocol.specs.Calls.{isTaken, dealing, sending}
-use Rattle.protocol.specs.Playing.{part}
-use Rattle.protocol.specs.declared.head.Head.{Head}
+use Rattle.sheet.specs.Playing.{part}
+use Rattle.sheet.specs.declared.head.Head.{Head}
 use Rattle.stage.specs.Stage.{Stage, noRecord, boardOn}
 use Rattle.outgoing.specs.Outgoing.{dealtFrame, frameFrom, healthyFrame}
 

@@ -6,7 +6,7 @@ use mathlib.Core.List.{List, []}
 use lib.Dec.{eqb}
 use lib.ListN.{getD, take, replicate}
 use Rattle.sets.specs.Sets.{member}
-use Rattle.protocol.specs.declared.head.Head.{Head}
+use Rattle.sheet.specs.declared.head.Head.{Head}
 use Rattle.protocol.specs.Limits.{frameRoom}
 use Rattle.protocol.specs.Rounds.{Board}
 use Rattle.protocol.specs.Calls.{isTaken, sending, dealing}

@@ -15,13 +15,13 @@ use Rattle.protocol.specs.Limits.{sheetMost, outputNeeded, cellsNeeded}
 use Rattle.protocol.specs.declared.records.Record.{Record}
 use Rattle.protocol.specs.Calls.{voidRecord}
 use Rattle.protocol.specs.Session.{keeper}
-use Rattle.protocol.specs.declared.head.Head.{Head}
-use Rattle.protocol.specs.Sheet.{Frame, wrongAt, reading}
-use Rattle.protocol.specs.Playing.{setting, finalBoards, printBoards, Play, refusedPlay, playHead, playing}
-use Rattle.protocol.proofs.Sheets.{GoodHead, few-boards, sheet-head, sheet-sound, parts-most}
+use Rattle.sheet.specs.declared.head.Head.{Head}
+use Rattle.sheet.specs.Sheet.{Frame, wrongAt, reading}
+use Rattle.sheet.specs.Playing.{setting, finalBoards, printBoards, Play, refusedPlay, playHead, playing}
+use Rattle.sheet.proofs.Sheets.{GoodHead, few-boards, sheet-head, sheet-sound, parts-most}
 use Rattle.text.proofs.LineEnds.{stop}
-use Rattle.reader.specs.declared.reading.Judged.{Judged}
-use Rattle.reader.specs.Reading.{judgedSays}
+use Rattle.judging_frames.specs.declared.lines.Judged.{Judged}
+use Rattle.judging_frames.specs.Lines.{judgedSays}
 use Rattle.reader.proofs.Accepted.{sheet-rising}
 use Rattle.printer.specs.Printed.{boardLines}
 use Rattle.printer.proofs.BoardLines.{lines-played}

@@ -1,11 +1,11 @@
--- What it takes to play a sheet. A middle layer: playing is `playing` of the protocol.
+-- What it takes to play a sheet. A middle layer: playing is `playing` of sheet/Playing.
 use Prim.Native.Nat.{ℕ, _+_, _≤_}
 use mathlib.Core.Path.{_≡_}
 use mathlib.Core.List.{List}
 use lib.ListN.{length}
 use Rattle.protocol.specs.Limits.{outputNeeded, cellsNeeded}
-use Rattle.protocol.specs.declared.head.Head.{Head}
-use Rattle.protocol.specs.Sheet.{reading}
+use Rattle.sheet.specs.declared.head.Head.{Head}
+use Rattle.sheet.specs.Sheet.{reading}
 use Rattle.finding.specs.Places.{lineStop}
 
 -- An accepted sheet by its head and where its frame lines begin, with cells and output enough.

@@ -2,7 +2,6 @@
 use codec::value::Value;
 use printer::printing::print_boards;
 use protocol::answers::Played;
-use protocol::head::Head;
 use protocol::limits::CELLS;
 use protocol::limits::OUTPUT;
 use protocol::limits::SHEET;
@@ -10,12 +9,13 @@ use reader::reading::read_sheet;
 use refusals::refusal::Refusal;
 use refusals::refusal::Verdict;
 use session::rounds::play_rounds;
+use sheet::head::Head;
 ghost use mathlib.Core.Path.{_≡_};
 ghost use mathlib.Core.List.{[], _∷_};
 ghost use Rattle.refusals.specs.Outcome.{taken};
 ghost use Rattle.protocol.specs.Answers.{playedSays};
-ghost use Rattle.protocol.specs.Sheet.{reading};
-ghost use Rattle.protocol.specs.Playing.{playHead, playing};
+ghost use Rattle.sheet.specs.Sheet.{reading};
+ghost use Rattle.sheet.specs.Playing.{playHead, playing};
 ghost use Rattle.playing.specs.Playable.{Playable};
 
 // A sheet that is accepted, by its head and where its frame lines begin; the bytes written.

@@ -20,9 +20,9 @@ use Rattle.protocol.specs.Calls.{voidRecord}
 use Rattle.protocol.specs.Listing.{asSet}
 use Rattle.protocol.specs.Rounds.{boardWith, Board}
 use Rattle.protocol.specs.Session.{Boards, boardAt, nobody}
-use Rattle.protocol.specs.declared.head.Head.{Head}
+use Rattle.sheet.specs.declared.head.Head.{Head}
 use Rattle.hex.specs.Hex.{hexByte, hexBytes}
-use Rattle.protocol.specs.Playing.{hexValue, printed, boardLine, printBoards}
+use Rattle.sheet.specs.Playing.{hexValue, printed, boardLine, printBoards}
 use Rattle.printer.specs.Printed.{boardsOf, healthyLine, boardLines, atFront}
 use Rattle.printer.proofs.Stores.{stores-more}
 
@@ -39,12 +39,12 @@ decision-at [] i other e = e
 decision-at (r ∷ rs) zero other e = refl
 decision-at (r ∷ rs) (suc i) other e = decision-at rs i other e
 
-pub detected-at : (records : List Record) (i : ℕ) (other : Record) → other .detected ≡ 0
-    → getD records i other .detected ≡ boardAt (boardsOf records) i .rec .detected
+pub list-at : (records : List Record) (i : ℕ) (other : Record) → other .list ≡ 0
+    → getD records i other .list ≡ boardAt (boardsOf records) i .rec .list
 unfolding boardAt boardsOf nobody voidRecord
-detected-at [] i other e = e
-detected-at (r ∷ rs) zero other e = refl
-detected-at (r ∷ rs) (suc i) other e = detected-at rs i other e
+list-at [] i other e = e
+list-at (r ∷ rs) zero other e = refl
+list-at (r ∷ rs) (suc i) other e = list-at rs i other e
 
 module _ (h : Head) (w : Boards) where
   -- The line of board i, by its kind.
@@ -58,7 +58,7 @@ module _ (h : Head) (w : Boards) where
   line-dealer i rest f d = rw (f, d) refl
 
   pub line-other : (i : ℕ) (rest : List ℕ) → member i (h .faulty) ≡ false → eqb i (h .plan .dealer) ≡ false
-      → boardLine h w i rest ≡ printed i (boardAt w i .rec .decision) (boardAt w i .rec .detected) rest
+      → boardLine h w i rest ≡ printed i (boardAt w i .rec .decision) (boardAt w i .rec .list) rest
   unfolding boardLine
   line-other i rest f d = rw (f, d) refl
 
@@ -106,7 +106,7 @@ module _ (h : Head) (w : Boards) where
       omega (arith, e, l, print-short k)
 
   -- The line of a board outside F, from a record with its decision and its list.
-  pub line-healthy : (i : ℕ) (r : Record) → r .decision ≡ boardAt w i .rec .decision → r .detected ≡ boardAt w i .rec .detected
+  pub line-healthy : (i : ℕ) (r : Record) → r .decision ≡ boardAt w i .rec .decision → r .list ≡ boardAt w i .rec .list
       → member i (h .faulty) ≡ false → healthyLine h i r [] ≡ boardLine h w i []
   unfolding healthyLine
   line-healthy i r ev es f =
@@ -158,7 +158,7 @@ module _ (h : Head) (w w′ : Boards) where
       (λ f. cases (eqb i (h .plan .dealer))
       (λ d. line-dealer h w i rest f d ∙ sym (line-dealer h w′ i rest f d))
       (λ d. line-other h w i rest f d
-      ∙ ap (λ (r : Record). printed i (r .decision) (r .detected) rest) (same f (eqb-false i (h .plan .dealer) d))
+      ∙ ap (λ (r : Record). printed i (r .decision) (r .list) rest) (same f (eqb-false i (h .plan .dealer) d))
       ∙ sym (line-other h w′ i rest f d)))
 
   pub print-same : (k : ℕ) → ((i : ℕ) → i < k → member i (h .faulty) ≡ false → i ≢ h .plan .dealer → boardAt w i .rec ≡ boardAt w′ i .rec)

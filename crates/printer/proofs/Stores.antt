@@ -9,7 +9,7 @@ use lib.ListN.{length, drop, set}
 use lib.Seq.{sets, sets-eq}
 use Rattle.codec.specs.Codec.{encode}
 use Rattle.hex.specs.Hex.{hexByte, hexBytes}
-use Rattle.protocol.specs.Playing.{hexValue, printed}
+use Rattle.sheet.specs.Playing.{hexValue, printed}
 
 -- Two runs, one after the other.
 pub stores-more : (l a b : List ℕ) (i k : ℕ) → k ≡ i + length a → sets (sets l i a) k b ≡ sets l i (a ++ b)
@@ -22,8 +22,8 @@ stores-first l a h =
     let z : 0 + length a ≡ length a = omega arith in
     sets-eq a l 0 (omega arith) ∙ ap (λ k. a ++ drop k l) z
 
-pub line-stores : (o : List ℕ) (at board decision detected : ℕ)
-    → set (sets (sets (sets o at (hexByte board [])) (at + 2) (hexValue decision [])) (at + 4) (hexByte detected [])) (at + 6) 10
-    ≡ sets o at (printed board decision detected [])
+pub line-stores : (o : List ℕ) (at board decision list : ℕ)
+    → set (sets (sets (sets o at (hexByte board [])) (at + 2) (hexValue decision [])) (at + 4) (hexByte list [])) (at + 6) 10
+    ≡ sets o at (printed board decision list [])
 unfolding encode hexByte hexBytes hexValue printed
-line-stores o at board decision detected = rw (add-two at, add-four at, add-six at) refl
+line-stores o at board decision list = rw (add-two at, add-four at, add-six at) refl

@@ -1,4 +1,4 @@
--- What is printed, from what the code has in hand. A middle layer: what `bench` prints is `benchPrints` of the protocol.
+-- What is printed, from what the code has in hand. A middle layer: what `bench` prints is `benchPrints` of sheet/Playing.
 use Prim.Native.Nat.{ℕ}
 use mathlib.Core.Bool.{_&&_, cond}
 use mathlib.Core.List.{List, [], map, _++_}
@@ -8,8 +8,8 @@ use Rattle.protocol.specs.Limits.{outputNeeded}
 use Rattle.protocol.specs.declared.records.Record.{Record}
 use Rattle.protocol.specs.Listing.{asSet}
 use Rattle.protocol.specs.Session.{Boards}
-use Rattle.protocol.specs.declared.head.Head.{Head}
-use Rattle.protocol.specs.Playing.{printed, printBoards}
+use Rattle.sheet.specs.declared.head.Head.{Head}
+use Rattle.sheet.specs.Playing.{printed, printBoards}
 use Rattle.protocol.specs.Rounds.{boardWith}
 
 -- Boards with these records; printing reads no cells.
@@ -18,7 +18,7 @@ boardsOf records = map (λ r. boardWith r ([])) records
 
 -- The line of board i, outside F, with record r: the dealer's has its value and an empty list.
 unfoldable pub healthyLine : Head → ℕ → Record → List ℕ → List ℕ
-healthyLine h i r rest = cond (eqb i (h .plan .dealer)) (printed i (h .word) 0 rest) (printed i (r .decision) (asSet (r .detected)) rest)
+healthyLine h i r rest = cond (eqb i (h .plan .dealer)) (printed i (h .word) 0 rest) (printed i (r .decision) (asSet (r .list)) rest)
 
 -- The lines of all boards outside F; nothing for more than seven boards, or if the output is too short.
 unfoldable pub boardLines : Head → List Record → List ℕ → List ℕ

@@ -3,11 +3,11 @@ use codec::value::Value;
 use codec::value::WIDTH;
 use digits::writing::print_byte;
 use listing::listing::as_set;
-use protocol::head::Head;
 use protocol::limits::LINE;
 use protocol::limits::OUTPUT;
 use protocol::records::Record;
 use sets::boards::member;
+use sheet::head::Head;
 ghost use mathlib.Core.Path.{_≡_};
 ghost use mathlib.Core.List.{[]};
 ghost use Prim.Native.Nat.{_+_, _*_, _≤_};
@@ -15,7 +15,7 @@ ghost use lib.ListN.{length};
 ghost use lib.Seq.{sets};
 ghost use Rattle.codec.specs.Codec.{width};
 ghost use Rattle.protocol.specs.Limits.{lineLength};
-ghost use Rattle.protocol.specs.Playing.{hexValue, printed};
+ghost use Rattle.sheet.specs.Playing.{hexValue, printed};
 ghost use Rattle.printer.specs.Printed.{healthyLine, boardLines, atFront};
 
 // A value as the digits of its bytes.
@@ -34,13 +34,13 @@ const LIST: usize = DECISION + 2 * WIDTH;
 const NEWLINE: usize = LINE - 1;
 
 // A board's line: board, decision, list as a set.
-fn print_line(out: &mut [u8], at: usize, board: u8, decision: Value, detected: u8)
+fn print_line(out: &mut [u8], at: usize, board: u8, decision: Value, list: u8)
     requires { ⌜ at + lineLength ≤ length (now out) ⌝ }
-    ensures { λ _. ⌜ now (out .exit) ≡ sets (now (out .entry)) at (printed board decision detected []) ⌝ }
+    ensures { λ _. ⌜ now (out .exit) ≡ sets (now (out .entry)) at (printed board decision list []) ⌝ }
 {
     print_byte(out, at, board);
     print_value(out, at + DECISION, decision);
-    print_byte(out, at + LIST, detected);
+    print_byte(out, at + LIST, list);
     out[at + NEWLINE] = 10;
 }
 
@@ -53,7 +53,7 @@ fn print_board(head: Head, i: u8, r: Record, out: &mut [u8], at: usize)
     if i == dealer {
         print_line(out, at, i, head.word, 0);
     } else {
-        print_line(out, at, i, r.decision, as_set(r.detected));
+        print_line(out, at, i, r.decision, as_set(r.list));
     }
 }
 

@@ -1,13 +1,13 @@
 -- Values are below the span, and lists name boards below n.
 -- Assumes nothing.
-use Prim.Native.Nat.{ℕ, zero, suc, _-_, _<_, _^_, _+_}
-use mathlib.Core.Path.{_≡_, refl, _∙_, ap}
+use Prim.Native.Nat.{ℕ, zero, suc, _-_, _<_, _^_}
+use mathlib.Core.Path.{_≡_, refl}
 use mathlib.Core.Bool.{Bool}
 use mathlib.Core.List.{List, _∷_, List·Memᴰ, List·Memᴰ·head, List·Memᴰ·tail, []}
 use mathlib.Core.Option.{Option, some, none, Option·getD}
 use native.Mathlib.Omega.{arith}
 use lib.Dec.{ltb}
-use lib.ListN.{length, getD}
+use lib.ListN.{length}
 use borrow.Author.Tests.{ltb-true}
 use Rattle.sets.proofs.Tests.{cases}
 use Rattle.sets.specs.Only.{only}
@@ -22,7 +22,7 @@ use Rattle.tree.specs.Cells.{cellAt}
 use Rattle.tree.proofs.Labels.{no-label, root-inv, label-inv}
 use Rattle.protocol.specs.Nodes.{read, internal, inner}
 use Rattle.protocol.specs.declared.records.Rule.the-variants as Rule
-use Rattle.protocol.specs.Detection.{vote, resolve, resolveRoot, byCell, byResolving, passes, Scan, detectG, detectAllG, detectC, detectAllC, detectLevels, tabulate}
+use Rattle.protocol.specs.Detection.{vote, resolve, resolveRoot, byCell, byResolving, passes, Scan, detectG, detectAllG, detectC, detectAllC, detectLevels}
 use Rattle.protocol.specs.Rounds.{Board, gather}
 use Rattle.protocol.proofs.Nodes.{inner-inv, node-label}
 use Rattle.protocol.proofs.Listing.{join-below}
@@ -83,13 +83,13 @@ module _ (p : Plan) (l : p .dealer < p .n) (i : ℕ) where
   inner-below α h = let (k, m) = h in last-below (p .n) (p .dealer) k α l (node-label p i k α (inner-inv p i k α m .0))
 
   module _ (run : Run) (round : Round) where
-    pub detectG-below : (αs : List Label) (s : Scan) → Inner αs → s .detected < 2 ^ p .n → detectAllG p i run round αs s .detected < 2 ^ p .n
+    pub detectG-below : (αs : List Label) (s : Scan) → Inner αs → s .list < 2 ^ p .n → detectAllG p i run round αs s .list < 2 ^ p .n
     unfolding detectAllG
     detectG-below [] s h b = b
     detectG-below (α ∷ αs) s h b =
         detectG-below αs (detectG p i run round α s) (λ β w. h β (List·Memᴰ·tail w))
-        (cases (passes p α (byCell p (s .cells) α) (s .detected)) (λ e. rw (detectG-kept p i run round α s e) b)
-        (λ e. rw (detectG-joined p i run round α s e) (join-below run round Rule.G (length α) (p .n) (last α) (s .detected) (inner-below α (h α (List·Memᴰ·head refl))) b)))
+        (cases (passes p α (byCell p (s .cells) α) (s .list)) (λ e. rw (detectG-kept p i run round α s e) b)
+        (λ e. rw (detectG-joined p i run round α s e) (join-below run round Rule.G (length α) (p .n) (last α) (s .list) (inner-below α (h α (List·Memᴰ·head refl))) b)))
 
     pub detectC-below : (cells : List ℕ) (αs : List Label) (s : ℕ) → Inner αs → s < 2 ^ p .n → detectAllC p i run round cells αs s < 2 ^ p .n
     unfolding detectAllC
@@ -105,15 +105,10 @@ module _ (p : Plan) (l : p .dealer < p .n) (i : ℕ) where
     levels-below cells (suc k) s b =
         levels-below cells k (detectAllC p i run round cells (inner p i (suc k)) s) (detectC-below cells (inner p i (suc k)) s (λ α m. (suc k, m)) b)
 
-pub gather-below : (b : Board) → b .rec .plan .dealer < b .rec .plan .n → b .rec .detected < 2 ^ b .rec .plan .n → gather b .detected < 2 ^ b .rec .plan .n
+pub gather-below : (b : Board) → b .rec .plan .dealer < b .rec .plan .n → b .rec .list < 2 ^ b .rec .plan .n → gather b .list < 2 ^ b .rec .plan .n
 unfolding gather
 gather-below b l h =
     detectG-below (b .rec .plan) l (b .rec .board) (b .rec .run) (b .rec .round) (inner (b .rec .plan) (b .rec .board) (b .rec .round .0 - 1)) _
     (λ α m. (b .rec .round .0 - 1, m)) h
 
 -- Entry c of a table.
-pub tabulate-at : (f : ℕ → Option ℕ) (k i c : ℕ) → c < k → getD (tabulate f i k) c none ≡ f (i + c)
-unfolding tabulate
-tabulate-at f zero i c l = absurd (omega arith)
-tabulate-at f (suc k) i zero l = ap f (let z : i ≡ i + 0 = omega arith in z)
-tabulate-at f (suc k) i (suc c) l = tabulate-at f k (suc i) c (omega arith) ∙ ap f (let z : suc i + c ≡ i + suc c = omega arith in z)

@@ -159,11 +159,11 @@ few p e q i k lq =
     (λ x. rw x (carried-few p q i (k .0 - 1) (f .dealer-below) (f .admission .most-boards) lq))
 
 -- Of a frame only its first 121 values are read: past 120 its length is wrong.
-counted-few : (r : Record) (q : ℕ) (αs : List Label) (f : List ℕ) → length αs ≤ frameMost → counted (r .detected) q αs (take frameRoom f) ≡ counted (r .detected) q αs f
+counted-few : (r : Record) (q : ℕ) (αs : List Label) (f : List ℕ) → length αs ≤ frameMost → counted (r .list) q αs (take frameRoom f) ≡ counted (r .list) q αs f
 unfolding counted
 counted-few r q αs f l =
     cases (leb (length f) frameRoom)
-    (λ e. ap (λ x. cond (eqb (length x) (length αs) && not (member q (r .detected))) x []) (take-all frameRoom f (leb-true (length f) frameRoom e)))
+    (λ e. ap (λ x. cond (eqb (length x) (length αs) && not (member q (r .list))) x []) (take-all frameRoom f (leb-true (length f) frameRoom e)))
     (λ e. let high : frameRoom < length f = leb-false (length f) frameRoom e in
     let cut : length (take frameRoom f) ≡ frameRoom = length-take-le frameRoom f (omega arith) in
     rw (ne-eqb (length (take frameRoom f)) (length αs) (omega arith), ne-eqb (length f) (length αs) (omega arith)))

@@ -43,7 +43,7 @@ pub record Good (r : Record) : Type 0 where
   pub below : r .board < r .plan .n
   pub other : r .board ≢ r .plan .dealer
   pub position : Has (r .plan) (r .run) (r .round)
-  pub detected-below : r .detected < 2 ^ r .plan .n
+  pub list-below : r .list < 2 ^ r .plan .n
   pub marks-below : r .marks < 2 ^ r .plan .n
   pub decision-below : r .decided ≡ true → r .decision < r .plan .span
 
@@ -114,14 +114,14 @@ module _ (r : Record) where
   unfolding goodPosition
   position-ground = (has-round (r .plan) (r .run) (r .round), round-has (r .plan) (r .run) (r .round))
 
-  pub marks-ground : (goodMarks r ≡ true) ↔ ((r .detected < 2 ^ r .plan .n) × (r .marks < 2 ^ r .plan .n))
+  pub marks-ground : (goodMarks r ≡ true) ↔ ((r .list < 2 ^ r .plan .n) × (r .marks < 2 ^ r .plan .n))
   unfolding goodMarks
   marks-ground =
       let n = r .plan .n in
-      let m = within (r .detected) (boards n) in
+      let m = within (r .list) (boards n) in
       let t = within (r .marks) (boards n) in (
-        λ e. (within-boards n (r .detected) (and-l m t e), within-boards n (r .marks) (and-r m t e)),
-        λ h. and-true m t (boards-within n (r .detected) (h .0)) (boards-within n (r .marks) (h .1)),
+        λ e. (within-boards n (r .list) (and-l m t e), within-boards n (r .marks) (and-r m t e)),
+        λ h. and-true m t (boards-within n (r .list) (h .0)) (boards-within n (r .marks) (h .1)),
       )
 
   pub decision-ground : (goodDecision r ≡ true) ↔ (r .decided ≡ true → r .decision < r .plan .span)
@@ -155,7 +155,7 @@ good-record r e =
       below = number-ground r .0 (and-l b c board);
       other = other-ground r .0 (and-r b c board);
       position = position-ground r .0 (and-l k (m && d) back);
-      detected-below = marks .0;
+      list-below = marks .0;
       marks-below = marks .1;
       decision-below = decision-ground r .0 (and-r m d fields);
     }
@@ -172,7 +172,7 @@ record-good r g =
     and-true (a && (b && c)) (k && (m && d))
     (and-true a (b && c) (plan-ground r .1 (g .plan-good)) (and-true b c (number-ground r .1 (g .below)) (other-ground r .1 (g .other))))
     (and-true k (m && d) (position-ground r .1 (g .position))
-    (and-true m d (marks-ground r .1 (g .detected-below, g .marks-below)) (decision-ground r .1 (g .decision-below))))
+    (and-true m d (marks-ground r .1 (g .list-below, g .marks-below)) (decision-ground r .1 (g .decision-below))))
 
 pub record-facts : (r : Record) → judgeRecord r .number ≡ 0 → Good r
 unfolding judgeRecord

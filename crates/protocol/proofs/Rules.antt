@@ -1,28 +1,42 @@
--- Rules G and C at one node: a board whose children no value explains, with the list, joins it; else the list stays. By rule G
--- the board's cells in the next level are masked too.
+-- At one node. Resolving: the children worth the value that it resolves to are not tolerated. Rules G and C: a board whose
+-- children no value explains, with the list, joins it; else the list stays. By rule G the board's cells in the next level are
+-- masked too.
 -- Assumes nothing.
 use Prim.Native.Nat.{ℕ, suc}
 use mathlib.Core.Path.{_≡_}
-use mathlib.Core.Bool.{true, false}
+use mathlib.Core.Bool.{true, false, not, _&&_}
 use mathlib.Core.List.{List}
+use mathlib.Core.Option.{Option, some}
 use lib.ListN.{length}
+use Rattle.sets.specs.Sets.{setOf}
+use Rattle.sets.specs.Structure.{tolerated}
+use Rattle.sets.specs.Only.{same}
+use Rattle.sets.proofs.Tests.{not-t}
+use Rattle.sets.proofs.Only.{only-some}
+use Rattle.plan.specs.Listed.{listed}
 use Rattle.plan.specs.declared.plan.Plan.{Plan}
 use Rattle.schedule.specs.declared.rounds.Run.{Run}
 use Rattle.schedule.specs.declared.rounds.Round.{Round}
-use Rattle.tree.specs.Labels.{Label, last}
+use Rattle.tree.specs.Labels.{Label, occurs, last}
 use Rattle.protocol.specs.declared.records.Rule.the-variants as Rule
 use Rattle.protocol.specs.Listing.{join}
 use Rattle.protocol.specs.Nodes.{nodes}
-use Rattle.protocol.specs.Detection.{byCell, byResolving, passes, maskBoard, Scan, detectG, detectC}
+use Rattle.protocol.specs.Detection.{vote, byCell, byResolving, passes, maskBoard, Scan, detectG, detectC}
+
+-- 01: "the children resolved to v form a set that is *not* tolerated".
+pub vote-untolerated : (p : Plan) (α : Label) (f : ℕ → Option ℕ) (v : ℕ) → vote p α f ≡ some v
+    → tolerated (listed p) (setOf (λ c. not (occurs c α) && same (f c) (some v)) (p .n)) ≡ false
+unfolding vote
+vote-untolerated p α f v e = not-t _ (only-some _ (p .span) v e .1)
 
 module _ (p : Plan) (i : ℕ) (run : Run) (round : Round) (α : Label) where
   module _ (s : Scan) where
-    pub detectG-joined : passes p α (byCell p (s .cells) α) (s .detected) ≡ false
-        → detectG p i run round α s ≡ record { detected = join (last α) run round Rule.G (length α) (s .detected); cells = maskBoard p (last α) (nodes p i (suc (length α))) (s .cells) }
+    pub detectG-joined : passes p α (byCell p (s .cells) α) (s .list) ≡ false
+        → detectG p i run round α s ≡ record { list = join (last α) run round Rule.G (length α) (s .list); cells = maskBoard p (last α) (nodes p i (suc (length α))) (s .cells) }
     unfolding detectG
     detectG-joined e = rw e
 
-    pub detectG-kept : passes p α (byCell p (s .cells) α) (s .detected) ≡ true → detectG p i run round α s ≡ s
+    pub detectG-kept : passes p α (byCell p (s .cells) α) (s .list) ≡ true → detectG p i run round α s ≡ s
     unfolding detectG
     detectG-kept e = rw e
 

@@ -40,9 +40,9 @@ begun-length n cells h =
     )
 
 -- 01: "a frame from a listed board" counts as 0 throughout: it has no values.
-pub listed-silent : (detected q : ℕ) (αs : List Label) (f : List ℕ) → member q (asSet detected) ≡ true → counted detected q αs f ≡ []
+pub listed-silent : (list q : ℕ) (αs : List Label) (f : List ℕ) → member q (asSet list) ≡ true → counted list q αs f ≡ []
 unfolding counted
-listed-silent detected q αs f on = cases (eqb (length f) (length αs)) (λ e. rw (e, on) refl) (λ e. rw e refl)
+listed-silent list q αs f on = cases (eqb (length f) (length αs)) (λ e. rw (e, on) refl) (λ e. rw e refl)
 
 -- 01: "the board copies its own cells to its own child nodes".
 pub own-copied : (p : Plan) (i : ℕ) (k : Round) (cells : List ℕ) → copyOwn p i k cells ≡ fill p i (sent p i i k) (frame p i i k cells) cells
@@ -51,7 +51,7 @@ own-copied p i k cells = refl
 
 -- A frame that is taken goes to the children of its sender.
 pub frame-stored : (q : ℕ) (f : List ℕ) (b : Board)
-    → let r = b .rec in let αs = sent (r .plan) q (r .board) (r .round) in receive q f b .cells ≡ fill (r .plan) q αs (counted (r .detected) q αs f) (b .cells)
+    → let r = b .rec in let αs = sent (r .plan) q (r .board) (r .round) in receive q f b .cells ≡ fill (r .plan) q αs (counted (r .list) q αs f) (b .cells)
 unfolding receive
 frame-stored q f b = refl
 
@@ -63,7 +63,7 @@ taken-stays r k cells m = cases (due (r .plan) k (r .board) (r .round)) (λ d. r
 module _ (b : Board) (s : Scan) where
   -- 01: "L stays": a run ends with the list that rule G left, and whom rule C adds.
   pub list-stays : let r = b .rec in
-      convert b s .rec .detected ≡ detectLevels (r .plan) (r .board) (r .run) (r .round) (s .cells) (rounds (r .plan) .0 - 1) (s .detected)
+      convert b s .rec .list ≡ detectLevels (r .plan) (r .board) (r .run) (r .round) (s .cells) (rounds (r .plan) .0 - 1) (s .list)
   unfolding convert runEnded
   list-stays = refl
 

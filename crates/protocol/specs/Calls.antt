@@ -61,7 +61,7 @@ unfoldable pub goodPosition : Record → Bool
 goodPosition r = hasRound (r .plan) (r .run) (r .round)
 
 unfoldable pub goodMarks : Record → Bool
-goodMarks r = within (asSet (r .detected)) (boards (r .plan .n)) && within (r .marks) (boards (r .plan .n))
+goodMarks r = within (asSet (r .list)) (boards (r .plan .n)) && within (r .marks) (boards (r .plan .n))
 
 unfoldable pub goodDecision : Record → Bool
 goodDecision r = not (r .decided) || ltb (r .decision) (r .plan .span)
@@ -91,7 +91,7 @@ voidRecord = record {
   board = 0;
   run = record { 0 = 0 };
   round = record { 0 = 0 };
-  detected = 0;
+  list = 0;
   marks = 0;
   decided = false;
   decision = 0;

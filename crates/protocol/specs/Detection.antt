@@ -9,6 +9,7 @@ use Rattle.sets.specs.Search.{any}
 use Rattle.sets.specs.Only.{only, same}
 use Rattle.sets.specs.Sets.{member, setOf}
 use Rattle.sets.specs.Structure.{tolerated}
+use Rattle.sets.specs.Tabulate.{tabulate}
 use Rattle.plan.specs.declared.plan.Plan.{Plan}
 use Rattle.plan.specs.Listed.{listed}
 use Rattle.schedule.specs.declared.rounds.Run.{Run}
@@ -26,11 +27,6 @@ use Rattle.protocol.specs.Nodes.{read, internal, nodes, inner}
 unfoldable pub vote : Plan → Label → (ℕ → Option ℕ) → Option ℕ
 vote p α f = only (λ v. not (tolerated (listed p) (setOf (λ c. not (occurs c α) && same (f c) (some v)) (p .n)))) (p .span)
 
--- f at the boards i to i + k - 1, rising.
-unfoldable pub tabulate : (ℕ → Option ℕ) → ℕ → ℕ → List (Option ℕ)
-tabulate f i zero = []
-tabulate f i (suc k) = f i ∷ tabulate f (suc i) k
-
 -- 01: "A leaf resolves to its cell. An internal node resolves to the only value ..; if there is none or more than one .. to none".
 -- `left` is the number of levels below the node.
 unfoldable pub resolve : Plan → ℕ → List ℕ → ℕ → Label → Option ℕ
@@ -47,8 +43,8 @@ resolveRoot p i cells = Option·getD (resolve p i cells (rounds p .0 - 1) (p .de
 
 -- 01: a value v below m makes "{children whose cell is not v} ∪ L tolerated"; f has what each child of α is worth.
 unfoldable pub explained : Plan → Label → (ℕ → Option ℕ) → ℕ → Bool
-explained p α f detected =
-    any (λ v. tolerated (listed p) (setOf (λ c. (not (occurs c α) && not (same (f c) (some v))) || member c (asSet detected)) (p .n))) (p .span)
+explained p α f list =
+    any (λ v. tolerated (listed p) (setOf (λ c. (not (occurs c α) && not (same (f c) (some v))) || member c (asSet list)) (p .n))) (p .span)
 
 -- What child c of α is worth by its cell, and by what it resolves to.
 unfoldable pub byCell : Plan → List ℕ → Label → ℕ → Option ℕ
@@ -59,11 +55,11 @@ byResolving p i cells α c = resolve p i cells (rounds p .0 - suc (length α)) (
 
 -- Does the rule leave the list as it is at node α? 01: "If r is not in L and no value v ..., r joins L".
 unfoldable pub passes : Plan → Label → (ℕ → Option ℕ) → ℕ → Bool
-passes p α f detected = member (last α) (asSet detected) || explained p α f detected
+passes p α f list = member (last α) (asSet list) || explained p α f list
 
 -- The list and the cells, as a rule goes over the nodes: 01 has both change "before the next node is looked at".
 pub record Scan : Type 0 where
-  pub detected : ℕ
+  pub list : ℕ
   pub cells : List ℕ
 
 -- Every cell of the nodes given that end in r becomes the default.
@@ -76,10 +72,10 @@ maskBoard p r (γ ∷ γs) cells = maskBoard p r γs (cond (eqb (last γ) r) (st
 unfoldable pub detectG : Plan → ℕ → Run → Round → Label → Scan → Scan
 detectG p i t k α s =
     let joined : Scan = record {
-      detected = join (last α) t k Rule.G (length α) (s .detected);
+      list = join (last α) t k Rule.G (length α) (s .list);
       cells = maskBoard p (last α) (nodes p i (suc (length α))) (s .cells);
     } in
-    cond (passes p α (byCell p (s .cells) α) (s .detected)) s joined
+    cond (passes p α (byCell p (s .cells) α) (s .list)) s joined
 
 unfoldable pub detectAllG : Plan → ℕ → Run → Round → List Label → Scan → Scan
 detectAllG p i t k [] s = s
@@ -87,15 +83,15 @@ detectAllG p i t k (α ∷ αs) s = detectAllG p i t k αs (detectG p i t k α s
 
 -- 003: FD2; 01: rule C, "rule G on resolved children, without changing cells". In run t and round k, the last.
 unfoldable pub detectC : Plan → ℕ → Run → Round → List ℕ → Label → ℕ → ℕ
-detectC p i t k cells α detected =
-    cond (passes p α (byResolving p i cells α) detected) detected (join (last α) t k Rule.C (length α) detected)
+detectC p i t k cells α list =
+    cond (passes p α (byResolving p i cells α) list) list (join (last α) t k Rule.C (length α) list)
 
 unfoldable pub detectAllC : Plan → ℕ → Run → Round → List ℕ → List Label → ℕ → ℕ
-detectAllC p i t k cells [] detected = detected
-detectAllC p i t k cells (α ∷ αs) detected = detectAllC p i t k cells αs (detectC p i t k cells α detected)
+detectAllC p i t k cells [] list = list
+detectAllC p i t k cells (α ∷ αs) list = detectAllC p i t k cells αs (detectC p i t k cells α list)
 
 -- 01: "over levels R − 1 down to 1, each in cell order": the level given and those below it.
 unfoldable pub detectLevels : Plan → ℕ → Run → Round → List ℕ → ℕ → ℕ → ℕ
-detectLevels p i t k cells zero detected = detected
-detectLevels p i t k cells (suc level) detected =
-    detectLevels p i t k cells level (detectAllC p i t k cells (inner p i (suc level)) detected)
+detectLevels p i t k cells zero list = list
+detectLevels p i t k cells (suc level) list =
+    detectLevels p i t k cells level (detectAllC p i t k cells (inner p i (suc level)) list)

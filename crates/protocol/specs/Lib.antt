@@ -7,6 +7,3 @@ pub mod Detection
 pub mod Rounds
 pub mod Calls
 pub mod Session
-pub mod Sheet
-pub mod Playing
-pub mod Cases

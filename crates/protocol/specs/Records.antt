@@ -11,12 +11,12 @@ use Rattle.protocol.specs.declared.records.Record.{Record}
 
 -- A board that stands open in a run and a round, with a list, and nothing marked.
 abbrev pub standingAt : Plan → ℕ → Run → Round → ℕ → Record
-standingAt p i t k detected = record {
+standingAt p i t k list = record {
   plan = p;
   board = i;
   run = t;
   round = k;
-  detected = detected;
+  list = list;
   marks = 0;
   decided = false;
   decision = 0;
@@ -29,7 +29,7 @@ withMarks r t = record {
   board = r .board;
   run = r .run;
   round = r .round;
-  detected = r .detected;
+  list = r .list;
   marks = t;
   decided = r .decided;
   decision = r .decision;
@@ -41,18 +41,18 @@ marked q r = withMarks r (insert q (r .marks))
 
 -- The next round of the same run.
 abbrev pub advanced : Record → ℕ → Record
-advanced r detected = standingAt (r .plan) (r .board) (r .run) (record { 0 = r .round .0 + 1 }) detected
+advanced r list = standingAt (r .plan) (r .board) (r .run) (record { 0 = r .round .0 + 1 }) list
 
 -- 01: "L stays. Then comes round 2 of the next run, or the decision, which is the root."
 unfoldable pub runEnded : Record → ℕ → ℕ → Record
-runEnded r detected root =
+runEnded r list root =
     let last = eqb (r .run .0) (runs (r .plan) .0) in
     record {
       plan = r .plan;
       board = r .board;
       run = record { 0 = cond last (r .run .0) (r .run .0 + 1) };
       round = record { 0 = cond last (r .round .0) 2 };
-      detected = detected;
+      list = list;
       marks = 0;
       decided = last;
       decision = cond last root 0;

@@ -38,14 +38,14 @@ fill p q (α ∷ αs) (v ∷ vs) cells = fill p q αs vs (store (p .n) cells (q 
 
 -- 01: "A frame of another length, .. and a frame from a listed board all count as 0 throughout": such a frame has no values.
 unfoldable pub counted : ℕ → ℕ → List Label → List ℕ → List ℕ
-counted detected q αs f = cond (eqb (length f) (length αs) && not (member q (asSet detected))) f []
+counted list q αs f = cond (eqb (length f) (length αs) && not (member q (asSet list))) f []
 
 -- A frame of board q is taken. 01: "the receiver stores each at that node's child q".
 unfoldable pub receive : ℕ → List ℕ → Board → Board
 receive q f b =
     let r = b .rec in
     let αs = sent (r .plan) q (r .board) (r .round) in
-    onto b (marked q r) (fill (r .plan) q αs (counted (r .detected) q αs f) (b .cells))
+    onto b (marked q r) (fill (r .plan) q αs (counted (r .list) q αs f) (b .cells))
 
 -- 01: "due frames not handed in are stored so": of the boards below j, to board i in round k, where `marks` were handed in.
 unfoldable pub fillMissing : Plan → ℕ → Round → ℕ → ℕ → List ℕ → List ℕ
@@ -67,7 +67,7 @@ gather b =
     let i = r .board in
     let k = r .round in
     detectAllG p i (r .run) k (inner p i (k .0 - 1))
-    (record { detected = r .detected; cells = copyOwn p i k (fillMissing p i k (r .marks) (p .n) (b .cells)) })
+    (record { list = r .list; cells = copyOwn p i k (fillMissing p i k (r .marks) (p .n) (b .cells)) })
 
 -- 01: "The resolved root becomes the root cell, all other cells FF". Surplus cells stay.
 unfoldable pub rootOnly : ℕ → ℕ → List ℕ → List ℕ
@@ -79,7 +79,7 @@ cleared n cells = replicate (cellCount n) blank ++ drop (cellCount n) cells
 
 -- The next round of the same run.
 unfoldable pub nextRound : Board → Scan → Board
-nextRound b s = onto b (advanced (b .rec) (s .detected)) (s .cells)
+nextRound b s = onto b (advanced (b .rec) (s .list)) (s .cells)
 
 -- 01: "Closing round R also converts".
 unfoldable pub convert : Board → Scan → Board
@@ -87,8 +87,8 @@ convert b s =
     let r = b .rec in
     let p = r .plan in
     let root = resolveRoot p (r .board) (s .cells) in
-    let detected = detectLevels p (r .board) (r .run) (r .round) (s .cells) (rounds p .0 - 1) (s .detected) in
-    onto b (runEnded r detected root) (rootOnly (p .n) root (s .cells))
+    let list = detectLevels p (r .board) (r .run) (r .round) (s .cells) (rounds p .0 - 1) (s .list) in
+    onto b (runEnded r list root) (rootOnly (p .n) root (s .cells))
 
 -- A round is closed. 01: "Then comes round 2 of the next run, or the decision"; before round R the next round.
 unfoldable pub close : Board → Board

@@ -9,17 +9,13 @@ use lib.Dec.{eqb, ltb}
 use lib.ListN.{getD, length}
 use Rattle.sets.specs.Sets.{member}
 use Rattle.sets.specs.Structure.{tolerated}
+use Rattle.sets.specs.Tabulate.{tabulate}
 use Rattle.plan.specs.declared.plan.Plan.{Plan}
 use Rattle.plan.specs.Calls.{judged}
 use Rattle.plan.specs.Listed.{listed}
 use Rattle.tree.specs.Places.{cellCount}
 use Rattle.protocol.specs.Rounds.{boardWith, Board}
 use Rattle.protocol.specs.Calls.{voidRecord, beginning, taking, frameOf, closing}
-
--- f at the numbers i to i + k - 1.
-unfoldable pub table : {A : Type 0} → (ℕ → A) → ℕ → ℕ → List A
-table f i zero = []
-table f i (suc k) = f i ∷ table f (suc i) k
 
 -- What a faulty board hands in: to board i in step j, from board q; nothing, or any values.
 abbrev pub Adversary : Type 0
@@ -68,10 +64,10 @@ hearAll s a w i j k = takeAll (hears s a w i j) (boardAt w i) k
 
 -- All boards after j steps. Past the last step closing is refused and nothing changes.
 unfoldable pub session : Setting → Adversary → ℕ → Boards
-session s a zero = table (begun s) 0 (s .plan .n)
+session s a zero = tabulate (begun s) 0 (s .plan .n)
 session s a (suc j) =
     let w = session s a j in
-    table (λ i. closing (hearAll s a w i j (s .plan .n)) .board) 0 (s .plan .n)
+    tabulate (λ i. closing (hearAll s a w i j (s .plan .n)) .board) 0 (s .plan .n)
 
 -- Board i after j steps.
 unfoldable pub at : Setting → Adversary → ℕ → ℕ → Board

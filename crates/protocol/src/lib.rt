@@ -1,5 +1,4 @@
 // The record of a board, and the answers of its calls. What each call does is defined in specs/.
 pub mod answers;
-pub mod head;
 pub mod limits;
 pub mod records;

@@ -17,8 +17,8 @@ pub struct Record {
     // Where it stands.
     pub run: Run,
     pub round: Round,
-    // The boards that it has detected to be faulty, its list.
-    pub detected: u8,
+    // Its list: the boards that it has detected to be faulty.
+    pub list: u8,
     // The senders whose frame was taken this round.
     pub marks: u8,
     pub decided: bool,

@@ -13,15 +13,16 @@ use Rattle.sets.specs.Sets.{member}
 use Rattle.sets.proofs.Tests.{cases, and-l, and-r}
 use Rattle.plan.specs.declared.plan.Plan.{Plan}
 use Rattle.refusals.specs.Outcome.{Outcome}
-use Rattle.protocol.specs.declared.head.Head.{Head}
-use Rattle.protocol.specs.Sheet.{Line, lines, headOf, judgeHead, wrongAt, reading}
-use Rattle.protocol.proofs.Sheets.{frames-head}
+use Rattle.sheet.specs.declared.head.Head.{Head}
+use Rattle.sheet.specs.Sheet.{Line, lines, headOf, judgeHead, wrongAt, reading}
+use Rattle.sheet.proofs.Sheets.{frames-head}
 use Rattle.hex.specs.Bytes.{isText}
 use Rattle.hex.proofs.Bytes.{all}
 use Rattle.text.proofs.LineEnds.{stop}
 use Rattle.finding.specs.Frames.{lineFrame, framesOf, framesFrom, frameKey, rising, Rising, lineKey}
 use Rattle.frame_lines.specs.FrameLines.{goodLine, judgeLine}
-use Rattle.reader.specs.Reading.{judgeLines, judgeTop}
+use Rattle.judging_frames.specs.Lines.{judgeLines}
+use Rattle.reader.specs.Reading.{judgeTop}
 use Rattle.reader.proofs.WholeSheet.{Begun, sheet-begun, sheet-refused, sheet-answer, read-frames}
 
 -- Lines that are accepted rise.

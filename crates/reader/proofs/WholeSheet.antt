@@ -21,15 +21,16 @@ use Rattle.refusals.specs.declared.refusal.Verdict.the-variants.{Refused}
 use Rattle.refusals.specs.Outcome.{refusal, verdict}
 use Rattle.refusals.proofs.Outcomes.{refusal-number}
 use Rattle.protocol.specs.Nodes.{due}
-use Rattle.protocol.specs.declared.head.Head.{Head}
-use Rattle.protocol.specs.Sheet.{Line, lines, lineBytes, headOf, judgeHead, Frame, frameLine, earlier, rises, goodFrame, wrongAt, refusedReading, addFrame, readFrames, readHead, readLines, reading}
+use Rattle.sheet.specs.declared.head.Head.{Head}
+use Rattle.sheet.specs.Sheet.{Line, lines, lineBytes, headOf, judgeHead, Frame, frameLine, earlier, rises, goodFrame, wrongAt, refusedReading, addFrame, readFrames, readHead, readLines, reading}
 use Rattle.hex.specs.Bytes.{isText, byteAt, bytesFrom}
 use Rattle.hex.proofs.Bytes.{all, bytes-length, bytes-drop, text-bytes, text-none, byte-below, all-at}
 use Rattle.heads.proofs.Heads.{head-sized}
-use Rattle.protocol.proofs.Sheets.{frames-text, frames-wrong, frames-right}
+use Rattle.sheet.proofs.Sheets.{frames-text, frames-wrong, frames-right}
 use Rattle.text.proofs.LineEnds.{stop, lines-at}
 use Rattle.frame_lines.specs.FrameLines.{expected, goodLine, judgeLine}
-use Rattle.reader.specs.Reading.{judgedSays, JudgedAs, judgeLines, judgeTop}
+use Rattle.judging_frames.specs.Lines.{judgedSays, JudgedAs, judgeLines}
+use Rattle.reader.specs.Reading.{judgeTop}
 use Rattle.finding.specs.Frames.{lineFrame, framesOf, keyOf, lineKey}
 use Rattle.reader.proofs.Places.{top-none}
 

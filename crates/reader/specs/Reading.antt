@@ -1,37 +1,28 @@
--- What reading a sheet gives, line by line. A middle layer: what a sheet says is `reading` of the protocol.
-use Prim.Native.Nat.{ℕ, _+_, _-_, _/_, _≤_}
+-- What reading a sheet gives, line by line. A middle layer: what a sheet says is `reading` of sheet/Sheet.
+use Prim.Native.Nat.{ℕ, _+_, _-_, _/_}
 use mathlib.Core.Path.{_≡_}
 use mathlib.Core.Bool.{_&&_, cond}
 use mathlib.Core.List.{List, [], _∷_}
-use lib.Dec.{eqb}
-use lib.ListN.{length, getD}
-use Rattle.plan.specs.declared.plan.Plan.{Plan}
-use Rattle.refusals.specs.Outcome.{Outcome, taken, refused, verdict}
-use Rattle.protocol.specs.Sheet.{Line, judgeHead, wrongAt, reading}
+use lib.ListN.{length, take}
+use Rattle.refusals.specs.declared.refusal.Verdict.{Verdict}
+use Rattle.refusals.specs.Outcome.{Outcome, refused, verdict}
+use Rattle.sheet.specs.Sheet.{Line, judgeHead, reading}
 use Rattle.hex.specs.Bytes.{isText, bytesFrom}
-use Rattle.finding.specs.Frames.{lineKey}
+use Rattle.heads.specs.declared.head.ReadHead.{ReadHead}
+use Rattle.heads.specs.Heads.{HeadRead}
 use Rattle.finding.specs.Places.{lineStop}
-use Rattle.frame_lines.specs.FrameLines.{judgeLine}
-use Rattle.reader.specs.declared.reading.Judged.{Judged}
+use Rattle.judging_frames.specs.Lines.{JudgedAs}
 use Rattle.reader.specs.declared.reading.ReadSheet.{ReadSheet}
 
--- A verdict on a sheet: for a refusal its line before its values.
-unfoldable pub judgedSays : Judged → Outcome
-judgedSays j = let o = verdict (j .verdict) in cond (eqb (o .number) 0) o (wrongAt (j .line) o)
+-- Where the first line ends, and what is judged of its head.
+pub record FirstJudged (text : List ℕ) (end : ℕ) (head : Verdict) : Type 0 where
+  pub ends : end ≡ lineStop text 0
+  pub judges : verdict head ≡ judgeHead (bytesFrom (take (end - 0) text) 0 (length (take (end - 0) text) / 2))
 
--- What is judged of some lines of a text of so many bytes: the outcome, its line, and a line that such a text can have.
-pub record JudgedAs (o : Outcome) (size : ℕ) (j : Judged) : Type 0 where
-  pub says : judgedSays j ≡ o
-  pub line : j .line ≡ getD (o .values) 0 0
-  pub few : j .line ≤ 1 + (size - 2)
-
--- The frame lines from line number `line` on: 21 and 24.
-unfoldable pub judgeLines : Plan → ℕ → ℕ → ℕ → List Line → Outcome
-judgeLines p faulty least line [] = taken []
-judgeLines p faulty least line (l ∷ ls) =
-    let o = judgeLine p faulty least l in
-    let rest = judgeLines p faulty (lineKey (l .text) + 1) (line + 1) ls in
-    cond (eqb (o .number) 0) rest (wrongAt line o)
+-- Where the first line ends, and the head that it gives.
+pub record FirstRead (text : List ℕ) (end : ℕ) (r : ReadHead) : Type 0 where
+  pub ends : end ≡ lineStop text 0
+  pub read : HeadRead (take (end - 0) text) r
 
 -- The first line: 21, 22, then 1 to 8, 18, 23.
 unfoldable pub judgeTop : List Line → Outcome

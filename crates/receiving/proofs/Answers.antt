@@ -39,7 +39,7 @@ module _ (b : Board) (q : ℕ) (f : List ℕ) where
   abbrev Taken : Outcome → List ℕ → Type 0
   Taken o after =
       let r = b .rec in
-      Takes (r .plan) q (r .detected) (r .marks) (due (r .plan) q (r .board) (r .round)) (sent (r .plan) q (r .board) (r .round)) (decode f) (b .cells) o after
+      Takes (r .plan) q (r .list) (r .marks) (due (r .plan) q (r .board) (r .round)) (sent (r .plan) q (r .board) (r .round)) (decode f) (b .cells) o after
 
   judged-so : judgeOpen b .number ≡ 0 → (o : Outcome) (after : List ℕ) → Taken o after → judgeReceiving b q ≡ o
   unfolding judgeReceiving
@@ -66,4 +66,4 @@ module _ (b : Board) (q : ℕ) (f : List ℕ) where
         (λ y. absurd (let w : taken [] ≡ refused 14 = sym z ∙ rw y at (t .answer) in let v : 0 ≡ 14 = ap (λ (o : Outcome). o .number) w in omega arith))
 
     pub taken-small : x ≡ taken [] → q < 8
-    taken-small z = omega (arith, due-below (b .rec .plan) q (b .rec .board) (b .rec .round) (taken-due z), open-stands b e .0 .most-boards)
+    taken-small z = omega (arith, due-below (b .rec .plan) q (b .rec .board) (b .rec .round) (taken-due z), open-stands b e .standing .most-boards)

@@ -37,7 +37,7 @@ pub fn receive(r: Record, cells: &mut [Value], sender: u8, frame: &[u8]) -> Rece
                 r.plan,
                 r.board,
                 r.round,
-                r.detected,
+                r.list,
                 r.marks,
                 sender,
                 frame,

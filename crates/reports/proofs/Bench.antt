@@ -17,8 +17,8 @@ use Rattle.protocol.specs.Limits.{sheetMost, outputNeeded, cellsNeeded}
 use Rattle.protocol.specs.declared.answers.Played.{Played}
 use Rattle.protocol.specs.declared.answers.Played.the-variants.{Written, Refused}
 use Rattle.protocol.specs.Answers.{playedSays}
-use Rattle.protocol.specs.Sheet.{wrongAt, reading}
-use Rattle.protocol.specs.Playing.{Play, playing, playHead, refusedPlay, finalBoards, printBoards, refusalText, benchPrints}
+use Rattle.sheet.specs.Sheet.{wrongAt, reading}
+use Rattle.sheet.specs.Playing.{Play, playing, playHead, refusedPlay, finalBoards, printBoards, refusalText, benchPrints}
 use Rattle.printer.specs.Printed.{Output}
 use Rattle.reports.specs.Reported.{reported}
 use Rattle.reports.proofs.Reports.{report-written, refused-front}

@@ -6,7 +6,7 @@ use mathlib.Core.List.{List, []}
 use lib.ListN.{length, set}
 use lib.Seq.{sets}
 use Rattle.hex.specs.Hex.{hexByte}
-use Rattle.protocol.specs.Playing.{refusalText}
+use Rattle.sheet.specs.Playing.{refusalText}
 
 pub refusal-stores : (o : List ℕ) (number line : ℕ)
     → set (sets (sets (sets (sets o 0 (hexByte 255 [])) 2 (hexByte number [])) 4 (hexByte (line / 256) [])) 6 (hexByte (line % 256) [])) 8 10

@@ -13,7 +13,7 @@ use Rattle.refusals.specs.declared.refusal.Refusal.{Refusal}
 use Rattle.refusals.specs.Outcome.{refusal}
 use Rattle.protocol.specs.declared.answers.Played.{Played}
 use Rattle.protocol.specs.declared.answers.Played.the-variants.{Written, Refused}
-use Rattle.protocol.specs.Playing.{refusalText}
+use Rattle.sheet.specs.Playing.{refusalText}
 use Rattle.printer.specs.Printed.{atFront}
 use Rattle.reports.specs.Reported.{reported}
 use Rattle.printer.proofs.Stores.{stores-first}

@@ -1,4 +1,4 @@
--- What is printed for an answer. A middle layer: what `bench` prints is `benchPrints` of protocol/Playing.
+-- What is printed for an answer. A middle layer: what `bench` prints is `benchPrints` of sheet/Playing.
 use Prim.Native.Nat.{ℕ}
 use mathlib.Core.Bool.{cond}
 use mathlib.Core.List.{List}
@@ -7,7 +7,7 @@ use lib.ListN.{length}
 use Rattle.refusals.specs.Outcome.{refusal}
 use Rattle.protocol.specs.declared.answers.Played.{Played}
 use Rattle.protocol.specs.declared.answers.Played.the-variants.{Written, Refused}
-use Rattle.protocol.specs.Playing.{refusalText}
+use Rattle.sheet.specs.Playing.{refusalText}
 use Rattle.printer.specs.Printed.{Output, atFront}
 
 -- What is printed for an answer; nothing if it does not fit.

@@ -6,7 +6,7 @@ ghost use mathlib.Core.Path.{_≡_};
 ghost use Prim.Native.Nat.{_≤_};
 ghost use lib.ListN.{length};
 ghost use lib.Seq.{sets};
-ghost use Rattle.protocol.specs.Playing.{refusalText};
+ghost use Rattle.sheet.specs.Playing.{refusalText};
 ghost use Rattle.reports.specs.Reported.{reported};
 
 // A sheet that is turned down: FF, the number, the line in two bytes.

@@ -1,6 +1,6 @@
 -- What a node resolves to: a leaf, an internal node from its children's table, and the root.
 -- Assumes nothing.
-use Prim.Native.Nat.{ℕ, zero, suc, _+_, _-_, _≤_, _<_}
+use Prim.Native.Nat.{ℕ, zero, suc, _-_, _≤_, _<_}
 use mathlib.Core.Path.{_≡_, refl, sym, ap, _∙_}
 use mathlib.Core.Logic.{_≢_}
 use mathlib.Core.Bool.{true, false, cond}
@@ -16,9 +16,11 @@ use Rattle.tree.specs.Labels.{Label, occurs, mask}
 use Rattle.tree.specs.Cells.{blank}
 use Rattle.tree.proofs.Masks.{mask-member}
 use Rattle.protocol.specs.Nodes.{read, internal}
-use Rattle.protocol.specs.Detection.{tabulate, resolve, resolveRoot}
-use Rattle.protocol.proofs.Bounds.{Small, resolve-small, tabulate-at}
-use Rattle.voting.specs.Worth.{worth, table}
+use Rattle.sets.specs.Tabulate.{tabulate}
+use Rattle.sets.proofs.Tabulated.{tabulate-at}
+use Rattle.protocol.specs.Detection.{resolve, resolveRoot}
+use Rattle.protocol.proofs.Bounds.{Small, resolve-small}
+use Rattle.voting.specs.Worth.{worth, childTable}
 use Rattle.voting.specs.Tables.{voted}
 use Rattle.voting.proofs.Table.{table-same}
 use Rattle.voting.proofs.Laws.{vote-table}
@@ -30,13 +32,13 @@ module _ (p : Plan) (i : ℕ) (cells : List ℕ) (α : Label) where
   resolve-leaf (suc left) e = rw e refl
 
   pub resolve-inner : (left : ℕ) → p .n ≤ 8 → p .span ≤ 255 → internal p i α ≡ true
-      → voted p (mask α) (table (λ c. resolve p i cells left (c ∷ α)) (mask α) (p .n)) ≡ worth (resolve p i cells (suc left) α)
+      → voted p (mask α) (childTable (λ c. resolve p i cells left (c ∷ α)) (mask α) (p .n)) ≡ worth (resolve p i cells (suc left) α)
   unfolding resolve
   resolve-inner left b m e =
       let child : ℕ → Option ℕ = λ c. cond (occurs c α) none (resolve p i cells left (c ∷ α)) in
       let found : ℕ → Option ℕ = λ c. getD (tabulate child 0 (p .n)) c none in
       let same : (c : ℕ) → c < p .n → member c (mask α) ≡ false → resolve p i cells left (c ∷ α) ≡ found c =
-      λ c l o. sym (tabulate-at child (p .n) 0 c l ∙ ap child (let z : 0 + c ≡ c = omega arith in z) ∙ rw (sym (mask-member c α) ∙ o) refl) in
+      λ c l o. sym (tabulate-at child (p .n) c none l ∙ rw (sym (mask-member c α) ∙ o) refl) in
       ap (voted p (mask α)) (table-same (λ c. resolve p i cells left (c ∷ α)) found (mask α) (p .n) same)
       ∙ sym (vote-table p α found b m)
       ∙ rw e refl

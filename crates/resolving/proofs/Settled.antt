@@ -1,6 +1,6 @@
 -- What the cells hold once every node was resolved in place.
 -- Assumes nothing.
-use Prim.Native.Nat.{ℕ, zero, suc, _+_, _-_, _≤_, _<_}
+use Prim.Native.Nat.{ℕ, zero, suc, _-_, _≤_, _<_}
 use mathlib.Core.Path.{_≡_, refl, sym, _∙_, ap}
 use mathlib.Core.Logic.{_≢_}
 use mathlib.Core.Bool.{true, false, cond}
@@ -20,7 +20,8 @@ use Rattle.tree.proofs.Places.{place-lt}
 use Rattle.tree.proofs.Cells.{store-length, store-same, store-other}
 use Rattle.plan.specs.Values.{value}
 use Rattle.protocol.specs.Nodes.{read, internal}
-use Rattle.protocol.specs.Detection.{vote, tabulate, resolve}
+use Rattle.sets.proofs.Tabulated.{tabulate-same}
+use Rattle.protocol.specs.Detection.{vote, resolve}
 use Rattle.voting.specs.Worth.{worth}
 use Rattle.resolving.specs.Settled.{settledBelow, settled}
 use Rattle.resolving.proofs.Under.{Under, here, down, under-trans, Labelled, child-labelled, under-labelled, under-length, Apart, apart-under, under-apart, apart-ne, siblings}
@@ -82,13 +83,6 @@ module _ (p : Plan) (i : ℕ) where
   below-length left α k cells = below-keeps length (settled p i left) α k (λ c x l o. settled-length left (c ∷ α) x) cells
 
   -- What a node resolves to depends on the cells below it alone.
-  tabulate-same : (f g : ℕ → Option ℕ) (j k : ℕ) → ((c : ℕ) → j ≤ c → c < j + k → f c ≡ g c) → tabulate f j k ≡ tabulate g j k
-  unfolding tabulate
-  tabulate-same f g j zero h = refl
-  tabulate-same f g j (suc k) h =
-      ap (λ x. x ∷ tabulate f (suc j) k) (h j (omega arith) (omega arith))
-      ∙ ap (λ xs. g j ∷ xs) (tabulate-same f g (suc j) k (λ c l m. h c (omega arith) (omega arith)))
-
   resolve-same : (left : ℕ) (α : Label) (a b : List ℕ) → ((k : ℕ) (γ : Label) → Under p i left α k γ → cellAt (p .n) a γ ≡ cellAt (p .n) b γ)
       → resolve p i a left α ≡ resolve p i b left α
   unfolding resolve read

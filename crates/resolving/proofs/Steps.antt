@@ -36,11 +36,12 @@ use Rattle.protocol.specs.Detection.{resolve}
 use Rattle.internal.specs.Tests.{isInternal}
 use Rattle.walk.proofs.Carried.{size-most}
 use Rattle.internal.proofs.InternalNodes.{internal-is}
-use Rattle.voting.specs.Worth.{worth, table}
+use Rattle.voting.specs.Worth.{worth, childTable}
 use Rattle.voting.specs.Tables.{voted}
 use Rattle.voting.proofs.Table.{table-zero, table-more, table-skip}
+use Rattle.leaves.specs.Leaves.{Leaves}
 use Rattle.resolving.specs.Settled.{settledBelow, settled, settledAll}
-use Rattle.resolving.specs.Contracts.{Convertible, Stands, Leaves, Settles, Roots, node}
+use Rattle.resolving.specs.Contracts.{Convertible, AtNode, Settles, Roots, node}
 use Rattle.resolving.proofs.Under.{here, Labelled}
 use Rattle.resolving.proofs.Settled.{settled-leaf, settled-inner, below-zero, below-more, below-skip, below-length, below-resolve}
 use Rattle.resolving.proofs.Resolved.{resolve-leaf, resolve-inner, root-none, root-some}
@@ -80,11 +81,11 @@ getD-any (x ∷ l) (suc i) a b h = getD-any l i a b (omega arith)
 pub record Filling (p : Plan) (i level index s left c child : ℕ) (values before cells : List ℕ) : Type 0 where
   pub inside : c ≤ p .n
   pub number : child ≡ childIndex (p .n) level index s c
-  pub values-are : values ≡ table (λ q. resolve p i before (left - 1) (q ∷ node p level index)) s c
+  pub values-are : values ≡ childTable (λ q. resolve p i before (left - 1) (q ∷ node p level index)) s c
   pub cells-are : cells ≡ settledBelow (settled p i (left - 1)) (node p level index) c before
 
 module _ {p : Plan} {holders : List ℕ} {i : ℕ} {before : List ℕ} (k : Convertible p holders i before)
-    {level start index s left : ℕ} (st : Stands p level start index s left) where
+    {level start index s left : ℕ} (st : AtNode p level start index s left) where
   abbrev α : Label
   α = node p level index
 
@@ -221,7 +222,7 @@ module _ {p : Plan} {holders : List ℕ} {i : ℕ} {before : List ℕ} (k : Conv
     absent = child-absent (p .n) (p .dealer) level index (k .dealer-below) (st .inside) s c child (st .boards-are) l out (f .number)
 
     pub child-stands : {next size : ℕ} → left ≢ 0 → size ≡ sizeWithin (p .n) level → next ≡ start + size
-        → Stands p (level + 1) next child (bitOr s (1 * 2 ^ c % 256)) (left - 1)
+        → AtNode p (level + 1) next child (bitOr s (1 * 2 ^ c % 256)) (left - 1)
     unfolding mask
     child-stands ne e x = record {
       start-is =
@@ -262,8 +263,8 @@ module _ {p : Plan} {holders : List ℕ} {i : ℕ} {before : List ℕ} (k : Conv
       let depth : suc (left - 1) ≡ left = omega arith in
       let w : v ≡ worth (resolve p i before (suc (left - 1)) α) =
       x
-      ∙ ap (voted p s) (f .values-are ∙ ap (table found s) whole)
-      ∙ ap (λ b. voted p b (table found b (p .n))) (st .boards-are)
+      ∙ ap (voted p s) (f .values-are ∙ ap (childTable found s) whole)
+      ∙ ap (λ b. voted p b (childTable found b (p .n))) (st .boards-are)
       ∙ resolve-inner p i before α (left - 1) (omega (arith, k .most-boards)) (k .most-values) e in
       record {
         value-is = w ∙ ap (λ m. worth (resolve p i before m α)) depth;
@@ -281,7 +282,7 @@ module _ {p : Plan} {holders : List ℕ} {i : ℕ} {before : List ℕ} (k : Conv
   unfolding levelSize
   root-is = root-at (p .n) (p .dealer) 1 0 refl (omega arith)
 
-  pub root-stands : Stands p 1 0 0 (1 * 2 ^ p .dealer % 256) (top - 1)
+  pub root-stands : AtNode p 1 0 0 (1 * 2 ^ p .dealer % 256) (top - 1)
   unfolding levelSize levelStart
   root-stands = record {
     start-is = refl;

@@ -3,12 +3,11 @@ use Prim.Native.Nat.{ℕ, _+_, _-_, _≤_, _<_}
 use mathlib.Core.Path.{_≡_}
 use mathlib.Core.Logic.{_≢_}
 use mathlib.Core.List.{List}
-use lib.ListN.{length, getD, set}
+use lib.ListN.{length}
 use Rattle.holders.specs.Holders.{holderTable}
 use Rattle.plan.specs.declared.plan.Plan.{Plan}
 use Rattle.plan.specs.Calls.{judged}
 use Rattle.plan.specs.Listed.{listed}
-use Rattle.plan.specs.Values.{value}
 use Rattle.schedule.specs.Schedule.{rounds}
 use Rattle.tree.specs.Labels.{Label, mask, labelAt}
 use Rattle.tree.specs.Places.{levelSize, levelStart, cellCount}
@@ -37,16 +36,21 @@ abbrev pub node : Plan → ℕ → ℕ → Label
 node p level index = labelAt (p .n) (p .dealer) level index
 
 -- Where the code stands in the tree: the level starts at `start`, the node has the boards s, and `left` levels are below it.
-pub record Stands (p : Plan) (level start index s left : ℕ) : Type 0 where
+pub record AtNode (p : Plan) (level start index s left : ℕ) : Type 0 where
   pub start-is : start ≡ levelStart (p .n) level
   pub inside : index < levelSize (p .n) level
   pub boards-are : s ≡ mask (node p level index)
   pub levels : level + left ≡ rounds p .0
 
--- A leaf's cell became a value.
-pub record Leaves (p : Plan) (at v : ℕ) (before after : List ℕ) : Type 0 where
-  pub value-is : v ≡ value p (getD before at 0)
-  pub cells-are : after ≡ set before at v
+-- A node to resolve, and the cells to do it in.
+pub record Resolvable (p : Plan) (holders : List ℕ) (i level start index s left : ℕ) (cells : List ℕ) : Type 0 where
+  pub convertible : Convertible p holders i cells
+  pub at-node : AtNode p level start index s left
+
+-- The whole tree: `top` is the last round.
+pub record WholeTree (p : Plan) (holders : List ℕ) (i top : ℕ) (cells : List ℕ) : Type 0 where
+  pub convertible : Convertible p holders i cells
+  pub top-is : top ≡ rounds p .0
 
 -- A node was resolved in place.
 pub record Settles (p : Plan) (i left : ℕ) (α : Label) (v : ℕ) (before after : List ℕ) : Type 0 where

@@ -32,7 +32,7 @@ use Rattle.protocol.specs.Nodes.{inner}
 use Rattle.protocol.specs.declared.records.Rule.the-variants as Rule
 use Rattle.protocol.specs.Listing.{join}
 use Rattle.protocol.proofs.Nodes.{inner-inv, node-label}
-use Rattle.voting.specs.Worth.{table}
+use Rattle.voting.specs.Worth.{childTable}
 use Rattle.voting.specs.Tables.{explainedBy}
 use Rattle.voting.proofs.Table.{table-same}
 use Rattle.walk.specs.Listing.{Walkable, Lists}
@@ -124,15 +124,15 @@ module _ {p : Plan} {holders : List ℕ} {i : ℕ} {cells : List ℕ} (k : Conve
       pub beside : Beside (p .n) (getD nodes j 0 % 128) (start + ix * (p .n - level)) cells
       beside = record { few = omega (arith, k .most-boards); there = child-there }
 
-      pub passes-here : (detected : ℕ) {b : Bool} → b ≡ passesAt p cells (start + ix * (p .n - level)) (getD nodes j 0) detected
-          → passesBy p cells (getD (inner p i level) j []) detected ≡ b
+      pub passes-here : (grown : ℕ) {b : Bool} → b ≡ passesAt p cells (start + ix * (p .n - level)) (getD nodes j 0) grown
+          → passesBy p cells (getD (inner p i level) j []) grown ≡ b
       unfolding passesAt passesBy cellAt
-      passes-here detected r =
+      passes-here grown r =
           sym (r
-          ∙ ap₂ (λ q t. member q detected || explainedBy p (x % 128) t detected) (visited .end)
+          ∙ ap₂ (λ q t. member q grown || explainedBy p (x % 128) t grown) (visited .end)
           (table-same (standingFrom cells from (x % 128)) (standing (p .n) cells α) (x % 128) (p .n)
           (λ c l o. ap some (getD-any cells (from + outsideBelow (x % 128) c) 0 blank (child-there c l o) ∙ ap (λ y. getD cells y blank) (child-place c))))
-          ∙ ap (λ s. member (last α) detected || explainedBy p s (table (standing (p .n) cells α) s (p .n)) detected) (visited .boards))
+          ∙ ap (λ s. member (last α) grown || explainedBy p s (childTable (standing (p .n) cells α) s (p .n)) grown) (visited .boards))
 
     -- One node of the level.
     here : drop j (inner p i level) ≡ getD (inner p i level) j [] ∷ drop (j + 1) (inner p i level)
@@ -142,30 +142,30 @@ module _ {p : Plan} {holders : List ℕ} {i : ℕ} {cells : List ℕ} (k : Conve
       abbrev rest : ℕ → ℕ → ℕ
       rest m d = detectBy p run round cells (drop m αs) d
 
-      step : (b : Bool) (detected : ℕ) → passesBy p cells (getD (inner p i level) j []) detected ≡ b
-          → rest j detected ≡ rest (j + 1) (cond b detected (join (last α) run round Rule.C (length α) detected))
+      step : (b : Bool) (grown : ℕ) → passesBy p cells (getD (inner p i level) j []) grown ≡ b
+          → rest j grown ≡ rest (j + 1) (cond b grown (join (last α) run round Rule.C (length α) grown))
       unfolding detectBy
-      step b detected e =
-          ap (λ l. detectBy p run round cells l detected) here
-          ∙ ap (λ x. rest (j + 1) (cond x detected (join (last α) run round Rule.C (length α) detected))) e
+      step b grown e =
+          ap (λ l. detectBy p run round cells l grown) here
+          ∙ ap (λ x. rest (j + 1) (cond x grown (join (last α) run round Rule.C (length α) grown))) e
 
-      pub node-kept : (detected after : ℕ) → passesBy p cells (getD (inner p i level) j []) detected ≡ true → after ≡ detected
-          → detectBy p run round cells (drop (j + 1) (inner p i level)) after ≡ detectBy p run round cells (drop j (inner p i level)) detected
-      node-kept detected after e d = ap (rest (j + 1)) d ∙ sym (step true detected e)
+      pub node-kept : (grown after : ℕ) → passesBy p cells (getD (inner p i level) j []) grown ≡ true → after ≡ grown
+          → detectBy p run round cells (drop (j + 1) (inner p i level)) after ≡ detectBy p run round cells (drop j (inner p i level)) grown
+      node-kept grown after e d = ap (rest (j + 1)) d ∙ sym (step true grown e)
 
-      pub node-joined : (detected after q : ℕ) → passesBy p cells (getD (inner p i level) j []) detected ≡ false → q ≡ getD nodes j 0 / 128 % 8
-          → after ≡ join q run round Rule.C level detected
-          → detectBy p run round cells (drop (j + 1) (inner p i level)) after ≡ detectBy p run round cells (drop j (inner p i level)) detected
-      node-joined detected after q e f d =
+      pub node-joined : (grown after q : ℕ) → passesBy p cells (getD (inner p i level) j []) grown ≡ false → q ≡ getD nodes j 0 / 128 % 8
+          → after ≡ join q run round Rule.C level grown
+          → detectBy p run round cells (drop (j + 1) (inner p i level)) after ≡ detectBy p run round cells (drop j (inner p i level)) grown
+      node-joined grown after q e f d =
           let depth : level ≡ length α = sym (label-length (p .n) (p .dealer) level α mem) in
-          ap (rest (j + 1)) (d ∙ ap₂ (λ r n. join r run round Rule.C n detected) (f ∙ visited .end) depth)
-          ∙ sym (step false detected e)
+          ap (rest (j + 1)) (d ∙ ap₂ (λ r n. join r run round Rule.C n grown) (f ∙ visited .end) depth)
+          ∙ sym (step false grown e)
 
-  pub nodes-done : (run : Run) (round : Round) (j detected : ℕ) → length nodes ≤ j
-      → detectBy p run round cells (drop j (inner p i level)) detected ≡ detected
+  pub nodes-done : (run : Run) (round : Round) (j grown : ℕ) → length nodes ≤ j
+      → detectBy p run round cells (drop j (inner p i level)) grown ≡ grown
   unfolding detectBy
-  nodes-done run round j detected h =
-      ap (λ l. detectBy p run round cells l detected) (drop-of-length-le αs {i = j} (omega (arith, list-length)))
+  nodes-done run round j grown h =
+      ap (λ l. detectBy p run round cells l grown) (drop-of-length-le αs {i = j} (omega (arith, list-length)))
 
 -- The list of the level's nodes, as the walk writes it.
 module _ {p : Plan} {holders : List ℕ} {i : ℕ} {cells : List ℕ} (k : Convertible p holders i cells) {level : ℕ} (low : 1 ≤ level) (high : level < rounds p .0) where

@@ -14,6 +14,11 @@ pub record Listed (p : Plan) (i level : ℕ) (nodes : List ℕ) : Type 0 where
   pub high : level < rounds p .0
   pub all : nodes ≡ map (code (p .n)) (inner p i level)
 
+-- The same, in cells that hold what each node resolved to.
+pub record AtNodes (p : Plan) (holders : List ℕ) (i level : ℕ) (nodes cells : List ℕ) : Type 0 where
+  pub convertible : Convertible p holders i cells
+  pub listed : Listed p i level nodes
+
 -- A level with internal nodes, in cells that hold what each node resolved to.
 pub record AtLevel (p : Plan) (holders : List ℕ) (i level : ℕ) (cells : List ℕ) : Type 0 where
   pub convertible : Convertible p holders i cells

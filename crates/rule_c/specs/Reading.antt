@@ -13,7 +13,7 @@ use Rattle.tree.specs.Cells.{cellAt}
 use Rattle.protocol.specs.declared.records.Rule.the-variants as Rule
 use Rattle.protocol.specs.Listing.{join, asSet}
 use Rattle.protocol.specs.Nodes.{inner}
-use Rattle.voting.specs.Worth.{table}
+use Rattle.voting.specs.Worth.{childTable}
 use Rattle.voting.specs.Tables.{explainedBy}
 
 -- What stands in the cell of child c.
@@ -23,7 +23,7 @@ standing n cells α c = some (cellAt n cells (c ∷ α))
 -- Does the rule leave the list as it is at node α?
 unfoldable pub passesBy : Plan → List ℕ → Label → ℕ → Bool
 passesBy p cells α list =
-    member (last α) (asSet list) || explainedBy p (mask α) (table (standing (p .n) cells α) (mask α) (p .n)) (asSet list)
+    member (last α) (asSet list) || explainedBy p (mask α) (childTable (standing (p .n) cells α) (mask α) (p .n)) (asSet list)
 
 -- The list after the nodes given.
 unfoldable pub detectBy : Plan → Run → Round → List ℕ → List Label → ℕ → ℕ

@@ -15,8 +15,8 @@ ghost use mathlib.Core.Path.{_≡_};
 ghost use Prim.Native.Nat.{_-_};
 ghost use Rattle.schedule.specs.Schedule.{rounds};
 ghost use Rattle.protocol.specs.Nodes.{inner};
-ghost use Rattle.resolving.specs.Contracts.{Convertible};
-ghost use Rattle.rule_c.specs.Contracts.{Listed, AtLevel};
+ghost use Rattle.resolving.specs.Contracts.{WholeTree};
+ghost use Rattle.rule_c.specs.Contracts.{AtNodes, AtLevel};
 ghost use Rattle.rule_c.specs.Reading.{detectBy, levelsBy};
 
 // The rule over the internal nodes of a level, in cell order; the list.
@@ -31,22 +31,22 @@ fn detect_nodes(
     list: u8,
     cells: &[Value],
 ) -> u8
-    requires { ⌜ Convertible plan (now holders) board (now cells) × Listed plan board level (now nodes) ⌝ }
+    requires { ⌜ AtNodes plan (now holders) board level (now nodes) (now cells) ⌝ }
     ensures { λ r. ⌜ r ≡ detectBy plan run round (now (cells .entry)) (inner plan board level) list ⌝ }
 {
     let start = level_start(plan.n, level + 1);
     let width = (plan.n - level) as usize;
-    let mut detected = list;
+    let mut grown = list;
     let mut i = 0;
     while i < nodes.len() {
         let node = nodes[i];
         let from = start + index_of(node) * width;
-        if !passes_at(plan, holders, from, node, detected, cells) {
-            detected = join(last_of(node), run, round, Rule::C, level, detected);
+        if !passes_at(plan, holders, from, node, grown, cells) {
+            grown = join(last_of(node), run, round, Rule::C, level, grown);
         }
         i += 1;
     }
-    detected
+    grown
 }
 
 fn detect_level(
@@ -88,14 +88,14 @@ pub fn detect_levels(
     list: u8,
     cells: &[Value],
 ) -> u8
-    requires { ⌜ Convertible plan (now holders) board (now cells) × (top ≡ rounds plan .0) ⌝ }
+    requires { ⌜ WholeTree plan (now holders) board top (now cells) ⌝ }
     ensures { λ r. ⌜ r ≡ levelsBy plan board run round (now (cells .entry)) (rounds plan .0 - 1) list ⌝ }
 {
-    let mut detected = list;
+    let mut grown = list;
     let mut level = top - 1;
     while 0 < level {
-        detected = detect_level(plan, holders, board, run, round, level, detected, cells);
+        grown = detect_level(plan, holders, board, run, round, level, grown, cells);
         level -= 1;
     }
-    detected
+    grown
 }

@@ -21,7 +21,7 @@ use Rattle.tree.proofs.NodePlaces.{at-mem}
 use Rattle.tree.proofs.Within.{start-most}
 use Rattle.protocol.specs.Detection.{explained, byCell}
 use Rattle.protocol.proofs.Bounds.{last-below}
-use Rattle.voting.specs.Worth.{worth, table}
+use Rattle.voting.specs.Worth.{worth, childTable}
 use Rattle.voting.specs.Tables.{explainedBy}
 use Rattle.voting.proofs.Table.{table-more, table-same}
 use Rattle.voting.proofs.Laws.{explained-table}
@@ -32,7 +32,7 @@ use Rattle.rule_g.specs.Visits.{kid, Kids, Visit}
 
 -- One more child.
 pub kid-more : (p : Plan) (s from : ℕ) (cells values : List ℕ) (c at v : ℕ) → member c s ≡ false → at ≡ from + outsideBelow s c
-    → v ≡ value p (getD cells at 0) → values ≡ table (kid p s from cells) s c → set values c v ≡ table (kid p s from cells) s (c + 1)
+    → v ≡ value p (getD cells at 0) → values ≡ childTable (kid p s from cells) s c → set values c v ≡ childTable (kid p s from cells) s (c + 1)
 unfolding kid worth
 kid-more p s from cells values c at v e x y z = rw (y, x, z) (sym (table-more (kid p s from cells) s c e))
 
@@ -63,13 +63,13 @@ module _ {p : Plan} {holders : List ℕ} {level node start : ℕ} {cells : List 
     kid-read = ap some (read-place p cells (c ∷ α) (from + outsideBelow (node % 128) c) kid-place kid-there)
 
   pub kids-there : Kids p (node % 128) from cells
-  kids-there c l out = kid-there c l out
+  kids-there = record { most-boards = v .tabled .most-boards; there = kid-there }
 
   -- The table is that of the children's cells.
-  pub kids-table : table (kid p (node % 128) from cells) (node % 128) (p .n) ≡ table (byCell p cells α) (mask α) (p .n)
+  pub kids-table : childTable (kid p (node % 128) from cells) (node % 128) (p .n) ≡ childTable (byCell p cells α) (mask α) (p .n)
   kids-table =
       table-same (kid p (node % 128) from cells) (byCell p cells α) (node % 128) (p .n) kid-read
-      ∙ ap (λ s. table (byCell p cells α) s (p .n)) (v .is-node .boards)
+      ∙ ap (λ s. childTable (byCell p cells α) s (p .n)) (v .is-node .boards)
 
   pub start-fits : start ≤ 5040
   start-fits = omega (arith, v .starts, start-most (p .n) (level + 1))
@@ -84,7 +84,7 @@ module _ {p : Plan} {holders : List ℕ} {level node start : ℕ} {cells : List 
   end-below = omega (arith, v .is-node .end, last-below (p .n) (p .dealer) level α (v .dealer-below) label)
 
   -- It is enough to try the children's own values.
-  pub explained-kids : (list : ℕ) → explainedBy p (node % 128) (table (kid p (node % 128) from cells) (node % 128) (p .n)) list ≡ explained p α (byCell p cells α) list
+  pub explained-kids : (list : ℕ) → explainedBy p (node % 128) (childTable (kid p (node % 128) from cells) (node % 128) (p .n)) list ≡ explained p α (byCell p cells α) list
   explained-kids list =
       ap₂ (λ s t. explainedBy p s t list) (v .is-node .boards) kids-table
       ∙ sym (explained-table p α (byCell p cells α) list (v .accepted) (v .span-byte) (v .held) (label-below (p .n) (p .dealer) level α (v .dealer-below) label))

@@ -100,11 +100,11 @@ mask-sent {p = p} {i = i} {k = k} s later q α cells l e =
 
 -- Rule G at a node.
 module _ (p : Plan) (i : ℕ) (run : Run) (round : Round) (α : Label) (s : Scan) where
-  pub detect-kept : passes p α (byCell p (s .cells) α) (s .detected) ≡ true → detectG p i run round α s ≡ s
+  pub detect-kept : passes p α (byCell p (s .cells) α) (s .list) ≡ true → detectG p i run round α s ≡ s
   unfolding detectG
   detect-kept e = rw e refl
 
-  pub detect-joined : passes p α (byCell p (s .cells) α) (s .detected) ≡ false
-      → detectG p i run round α s ≡ record { detected = join (last α) run round Rule.G (length α) (s .detected); cells = maskBoard p (last α) (nodes p i (suc (length α))) (s .cells) }
+  pub detect-joined : passes p α (byCell p (s .cells) α) (s .list) ≡ false
+      → detectG p i run round α s ≡ record { list = join (last α) run round Rule.G (length α) (s .list); cells = maskBoard p (last α) (nodes p i (suc (length α))) (s .cells) }
   unfolding detectG
   detect-joined e = rw e refl

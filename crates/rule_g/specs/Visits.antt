@@ -22,9 +22,15 @@ use Rattle.frames.specs.Nodes.{Standing, nodeAt, IsNode}
 unfoldable pub kid : Plan → ℕ → ℕ → List ℕ → ℕ → Option ℕ
 kid p s from cells c = some (value p (getD cells (from + outsideBelow s c) 0))
 
--- They are there.
-abbrev pub Kids : Plan → ℕ → ℕ → List ℕ → Type 0
-Kids p s from cells = (c : ℕ) → c < p .n → member c s ≡ false → from + outsideBelow s c < length cells
+-- They are there, at most seven.
+pub record Kids (p : Plan) (s from : ℕ) (cells : List ℕ) : Type 0 where
+  pub most-boards : p .n ≤ 7
+  pub there : (c : ℕ) → c < p .n → member c s ≡ false → from + outsideBelow s c < length cells
+
+-- A level above the last, and where the next level starts.
+pub record Above (n level start : ℕ) : Type 0 where
+  pub level-below : level < n
+  pub start-most : start ≤ 5040
 
 -- An internal node of an accepted plan, the plan's table of holders, and cells enough; `start` is where the next level starts.
 pub record Visit (p : Plan) (holders : List ℕ) (level node start : ℕ) (cells : List ℕ) : Type 0 where

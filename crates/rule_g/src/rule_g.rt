@@ -13,16 +13,16 @@ use schedule::rounds::Round;
 use schedule::rounds::Run;
 use sets::boards::member;
 ghost use mathlib.Core.Path.{_≡_};
-ghost use Prim.Native.Nat.{_+_, _-_, _*_, _/_, _≤_, _<_};
+ghost use Prim.Native.Nat.{_+_, _-_, _*_, _/_};
 ghost use Rattle.protocol.specs.Detection.{byCell, passes, detectG};
-ghost use Rattle.voting.specs.Worth.{table};
+ghost use Rattle.voting.specs.Worth.{childTable};
 ghost use Rattle.frames.specs.Nodes.{nodeAt};
-ghost use Rattle.rule_g.specs.Visits.{kid, Kids, Visit, Detects};
+ghost use Rattle.rule_g.specs.Visits.{kid, Kids, Above, Visit, Detects};
 
 // What the children of a node with these boards are worth by their cells, the first of which stands at `from`.
 fn child_values(plan: Plan, boards: u8, from: usize, cells: &[Value]) -> [Value; 8]
-    requires { ⌜ (plan .n ≤ 7) × Kids plan boards from (now cells) ⌝ }
-    ensures { λ t. ⌜ t ≡ table (kid plan boards from (now (cells .entry))) boards (plan .n) ⌝ }
+    requires { ⌜ Kids plan boards from (now cells) ⌝ }
+    ensures { λ t. ⌜ t ≡ childTable (kid plan boards from (now (cells .entry))) boards (plan .n) ⌝ }
 {
     let n = plan.n;
     let mut values = [Plan::BLANK; 8];
@@ -40,7 +40,7 @@ fn child_values(plan: Plan, boards: u8, from: usize, cells: &[Value]) -> [Value;
 
 // Where the first child of a node stands; `start` is where its level starts.
 fn first_child(n: u8, level: u8, node: u32, start: usize) -> usize
-    requires { ⌜ (level < n) × (start ≤ 5040) ⌝ }
+    requires { ⌜ Above n level start ⌝ }
     ensures { λ k. ⌜ k ≡ start + node / 1024 * (n - level) ⌝ }
 {
     let width = (n - level) as usize;
@@ -82,7 +82,7 @@ pub fn detect_at(
     cells: &mut [Value],
 ) -> u8
     requires { ⌜ Detects plan (now holders) board round node start (now cells) ⌝ }
-    ensures { λ d. ⌜ record { detected = d; cells = now (cells .exit) } ≡ detectG plan board run round (nodeAt plan (round .0 - 1) node) (record { detected = list; cells = now (cells .entry) }) ⌝ }
+    ensures { λ d. ⌜ record { list = d; cells = now (cells .exit) } ≡ detectG plan board run round (nodeAt plan (round .0 - 1) node) (record { list = list; cells = now (cells .entry) }) ⌝ }
 {
     if passes(plan, holders, round.0 - 1, node, start, list, cells) {
         return list;

@@ -10,18 +10,15 @@ use refusals::refusal::Verdict;
 use schedule::rounds::Round;
 use tables::listed::table_of;
 ghost use mathlib.Core.Path.{_≡_};
-ghost use Prim.Native.Nat.{_≤_};
-ghost use lib.ListN.{length};
-ghost use Rattle.tree.specs.Places.{cellCount};
 ghost use Rattle.protocol.specs.Answers.{sentSays};
 ghost use Rattle.protocol.specs.Calls.{sending};
-ghost use Rattle.frames.specs.Nodes.{Stands};
+ghost use Rattle.frames.specs.Nodes.{InRound};
 ghost use Rattle.sending.specs.Writing.{Writes};
 ghost use Rattle.protocol.specs.Rounds.{boardWith};
 
 // 16, 17, then the frame is written. In round 1 only the dealer sends.
 fn write(plan: Plan, board: u8, round: Round, cells: &[Value], out: &mut [u8]) -> Sent
-    requires { ⌜ Stands plan board round × (cellCount (plan .n) ≤ length (now cells)) ⌝ }
+    requires { ⌜ InRound plan board round (now cells) ⌝ }
     ensures { λ x. ⌜ Writes plan board round (now (cells .entry)) (now (out .entry)) (sentSays x) (now (out .exit)) ⌝ }
 {
     let k = round.0;

@@ -25,15 +25,15 @@ use Rattle.protocol.specs.Nodes.{due}
 use Rattle.protocol.specs.Rounds.{boardWith, Board}
 use Rattle.protocol.specs.Calls.{isTaken, voidRecord, judgeOpen, judgeSending, dealing, taking, receiving, sending, frameOf, wireOf}
 use Rattle.protocol.specs.Session.{Adversary, Setting, boardAt, begun, hears, handIn, at, takeAll, keeper, Sound}
-use Rattle.protocol.specs.declared.head.Head.{Head}
-use Rattle.protocol.specs.Sheet.{Frame}
-use Rattle.protocol.specs.Playing.{findFrame, decoded, sheetAdversary, part, replacePart, setting, finalCells, finalBoards}
+use Rattle.sheet.specs.declared.head.Head.{Head}
+use Rattle.sheet.specs.Sheet.{Frame}
+use Rattle.sheet.specs.Playing.{findFrame, decoded, sheetAdversary, part, replacePart, setting, finalCells, finalBoards}
 use Rattle.synchronous.proofs.Synchronous.{at-start, at-next, told, keeper-facts}
 use Rattle.synchronous.proofs.PartHeard.{MidStep, part-heard, cells-kept}
 use Rattle.protocol.proofs.Judgement.{Open, open-taken}
 use Rattle.protocol.proofs.Few.{sends, unsent}
 use Rattle.protocol.proofs.Taken.{sending-gives}
-use Rattle.protocol.proofs.Sheets.{GoodHead, few-boards, parts-most, part-length}
+use Rattle.sheet.proofs.Sheets.{GoodHead, few-boards, parts-most, part-length}
 use Rattle.stage.specs.declared.acting.Act.the-variants.{Begin, Close}
 use Rattle.stage.specs.Stage.{Stage, noRecord, boardOn, keeps, acted, putBoard, onStage}
 use Rattle.outgoing.specs.Outgoing.{dealtFrame, frameFrom}

@@ -18,13 +18,13 @@ use Rattle.heights.specs.Levels.{depthOf, isCut}
 use Rattle.schedule.specs.Schedule.{ceilDiv, rounds, runs, steps, stepRun, stepRound}
 use Rattle.schedule.proofs.Levels.{ceil-none, ceil-le, runs-cut, runs-full}
 use Rattle.schedule.proofs.Steps.{step-has, step-of-round, earlier-step}
-use Rattle.protocol.specs.Sheet.{Frame}
-use Rattle.protocol.specs.Playing.{findFrame}
+use Rattle.sheet.specs.Sheet.{Frame}
+use Rattle.sheet.specs.Playing.{findFrame}
 use Rattle.finding.specs.Frames.{keyOf, rising, skipFrames}
 use Rattle.finding.proofs.ByKey.{rising-skipped, find-skipped}
 use Rattle.session.specs.Steps.{stepKey, framesLeft, playStep, playSteps}
 use native.Mathlib.Numerals.{add-one}
-use Rattle.protocol.specs.declared.head.Head.{Head}
+use Rattle.sheet.specs.declared.head.Head.{Head}
 use Rattle.stage.specs.Stage.{Stage}
 
 -- One step more, with what is left of the frames.

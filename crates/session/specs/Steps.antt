@@ -3,8 +3,8 @@ use Prim.Native.Nat.{ℕ, zero, suc}
 use mathlib.Core.List.{List}
 use Rattle.plan.specs.declared.plan.Plan.{Plan}
 use Rattle.schedule.specs.Schedule.{stepRun, stepRound}
-use Rattle.protocol.specs.Sheet.{Frame}
-use Rattle.protocol.specs.declared.head.Head.{Head}
+use Rattle.sheet.specs.Sheet.{Frame}
+use Rattle.sheet.specs.declared.head.Head.{Head}
 use Rattle.finding.specs.Frames.{keyOf, skipFrames}
 use Rattle.stage.specs.declared.acting.Act.the-variants.{Begin, Close}
 use Rattle.stage.specs.Stage.{Stage, actAll}

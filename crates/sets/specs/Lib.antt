@@ -1,4 +1,5 @@
 pub mod Search
+pub mod Tabulate
 pub mod Sets
 pub mod Structure
 pub mod Only

@@ -8,9 +8,9 @@ use lib.ListN.{length}
 use Rattle.tree.specs.Places.{cellCount, countWithin}
 use Rattle.tree.proofs.Parts.{parts-within}
 use Rattle.tree.proofs.Within.{count-within}
-use Rattle.protocol.specs.declared.head.Head.{Head}
+use Rattle.sheet.specs.declared.head.Head.{Head}
 use Rattle.protocol.specs.Limits.{cellsNeeded}
-use Rattle.protocol.proofs.Sheets.{parts-most}
+use Rattle.sheet.proofs.Sheets.{parts-most}
 use Rattle.stage.specs.Stage.{Roomy}
 
 module _ (h : Head) (cells : List ℕ) (r : Roomy h cells) (i c : ℕ) (size : c ≡ countWithin (h .plan .n)) (below : i < h .plan .n) where

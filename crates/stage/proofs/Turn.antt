@@ -11,8 +11,8 @@ use lib.Seq.{drop-drop}
 use Rattle.tree.specs.Places.{cellCount}
 use Rattle.protocol.specs.declared.records.Record.{Record}
 use Rattle.protocol.specs.Rounds.{boardWith, Board}
-use Rattle.protocol.specs.Playing.{part, replacePart}
-use Rattle.protocol.specs.declared.head.Head.{Head}
+use Rattle.sheet.specs.Playing.{part, replacePart}
+use Rattle.sheet.specs.declared.head.Head.{Head}
 use Rattle.stage.specs.Stage.{Stage, noRecord, boardOn, keeps, putBoard, onStage}
 
 pub length-lent : (xs ys : List ℕ) (a k : ℕ) → length ys ≡ length (take k (drop a xs)) → length (take a xs ++ (ys ++ drop k (drop a xs))) ≡ length xs

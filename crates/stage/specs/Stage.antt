@@ -9,9 +9,9 @@ use Rattle.plan.specs.declared.plan.Plan.{Plan}
 use Rattle.tree.specs.Places.{cellCount}
 use Rattle.protocol.specs.declared.records.Record.{Record}
 use Rattle.protocol.specs.Rounds.{boardWith, Board}
-use Rattle.protocol.specs.declared.head.Head.{Head}
+use Rattle.sheet.specs.declared.head.Head.{Head}
 use Rattle.protocol.specs.Calls.{beginning, closing}
-use Rattle.protocol.specs.Playing.{part, replacePart}
+use Rattle.sheet.specs.Playing.{part, replacePart}
 use Rattle.stage.specs.declared.acting.Act.{Act}
 use Rattle.stage.specs.declared.acting.Act.the-variants.{Begin, Close}
 
@@ -32,7 +32,7 @@ noRecord = record {
   board = 0;
   run = record { 0 = 0 };
   round = record { 0 = 0 };
-  detected = 0;
+  list = 0;
   marks = 0;
   decided = false;
   decision = 0;

@@ -45,16 +45,16 @@ pub fn store_frame(
     plan: Plan,
     level: u8,
     q: u8,
-    detected: u8,
+    list: u8,
     nodes: &[u32],
     frame: &[u8],
     cells: &mut [Value],
 )
     requires { ⌜ Storable plan level q (now nodes) (now cells) ⌝ }
-    ensures { λ _. ⌜ now (cells .exit) ≡ fill plan q (labelsOf plan level (now (nodes .entry))) (counted detected q (labelsOf plan level (now (nodes .entry))) (decode (now (frame .entry)))) (now (cells .entry)) ⌝ }
+    ensures { λ _. ⌜ now (cells .exit) ≡ fill plan q (labelsOf plan level (now (nodes .entry))) (counted list q (labelsOf plan level (now (nodes .entry))) (decode (now (frame .entry)))) (now (cells .entry)) ⌝ }
 {
     let mut length: usize = 0;
-    if value_count(frame) == nodes.len() && !member(as_set(detected), q) {
+    if value_count(frame) == nodes.len() && !member(as_set(list), q) {
         length = frame.len();
     }
     store_at(plan, level, q, nodes, &frame[0..length], cells);

@@ -93,8 +93,8 @@ same-members k a b ha hb h =
 module _ (r : Record) (msg msg′ : ℕ → Option (List ℕ)) where
   -- Of the boards below j the same frames are taken, and they count as the same.
   record Alike (j : ℕ) : Type 0 where
-    same-accepts : (q : ℕ) → q < j → accepts (r .plan) (r .board) (r .round) (r .detected) msg q ≡ accepts (r .plan) (r .board) (r .round) (r .detected) msg′ q
-    same-content : (q : ℕ) → q < j → accepts (r .plan) (r .board) (r .round) (r .detected) msg q ≡ true → content (r .plan) (r .board) (r .round) (r .detected) msg q ≡ content (r .plan) (r .board) (r .round) (r .detected) msg′ q
+    same-accepts : (q : ℕ) → q < j → accepts (r .plan) (r .board) (r .round) (r .list) msg q ≡ accepts (r .plan) (r .board) (r .round) (r .list) msg′ q
+    same-content : (q : ℕ) → q < j → accepts (r .plan) (r .board) (r .round) (r .list) msg q ≡ true → content (r .plan) (r .board) (r .round) (r .list) msg q ≡ content (r .plan) (r .board) (r .round) (r .list) msg′ q
 
   alike-low : (j : ℕ) → Alike (suc j) → Alike j
   alike-low j h = record {
@@ -102,28 +102,28 @@ module _ (r : Record) (msg msg′ : ℕ → Option (List ℕ)) where
     same-content = λ q l. h .same-content q (omega arith);
   }
 
-  marks-same : (j : ℕ) → Alike j → marks (r .plan) (r .board) (r .round) (r .detected) msg j ≡ marks (r .plan) (r .board) (r .round) (r .detected) msg′ j
+  marks-same : (j : ℕ) → Alike j → marks (r .plan) (r .board) (r .round) (r .list) msg j ≡ marks (r .plan) (r .board) (r .round) (r .list) msg′ j
   unfolding marks
   marks-same zero h = refl
   marks-same (suc j) h = ap₂ (λ b s. cond b (insert j s) s) (h .same-accepts j (omega arith)) (marks-same j (alike-low j h))
 
-  cells-same : (cells : List ℕ) (j : ℕ) → Alike j → heardCells (r .plan) (r .board) (r .round) (r .detected) msg cells j ≡ heardCells (r .plan) (r .board) (r .round) (r .detected) msg′ cells j
+  cells-same : (cells : List ℕ) (j : ℕ) → Alike j → heardCells (r .plan) (r .board) (r .round) (r .list) msg cells j ≡ heardCells (r .plan) (r .board) (r .round) (r .list) msg′ cells j
   unfolding heardCells
   cells-same cells zero h = refl
   cells-same cells (suc j) h =
       let ih = cells-same cells j (alike-low j h) in
-      cases (accepts (r .plan) (r .board) (r .round) (r .detected) msg j)
+      cases (accepts (r .plan) (r .board) (r .round) (r .list) msg j)
       (λ e. rw (e, sym (h .same-accepts j (omega arith)) ∙ e) (ap₂ (fill (r .plan) j (sent (r .plan) j (r .board) (r .round))) (h .same-content j (omega arith) e) ih))
       (λ e. rw (e, sym (h .same-accepts j (omega arith)) ∙ e) ih)
 
 -- No frame is taken.
 module _ (r : Record) (msg : ℕ → Option (List ℕ)) where
-  marks-none : (j : ℕ) → ((q : ℕ) → q < j → accepts (r .plan) (r .board) (r .round) (r .detected) msg q ≡ false) → marks (r .plan) (r .board) (r .round) (r .detected) msg j ≡ 0
+  marks-none : (j : ℕ) → ((q : ℕ) → q < j → accepts (r .plan) (r .board) (r .round) (r .list) msg q ≡ false) → marks (r .plan) (r .board) (r .round) (r .list) msg j ≡ 0
   unfolding marks
   marks-none zero h = refl
   marks-none (suc j) h = rw (h j (omega arith)) (marks-none j (λ q l. h q (omega arith)))
 
-  cells-none : (cells : List ℕ) (j : ℕ) → ((q : ℕ) → q < j → accepts (r .plan) (r .board) (r .round) (r .detected) msg q ≡ false) → heardCells (r .plan) (r .board) (r .round) (r .detected) msg cells j ≡ cells
+  cells-none : (cells : List ℕ) (j : ℕ) → ((q : ℕ) → q < j → accepts (r .plan) (r .board) (r .round) (r .list) msg q ≡ false) → heardCells (r .plan) (r .board) (r .round) (r .list) msg cells j ≡ cells
   unfolding heardCells
   cells-none cells zero h = refl
   cells-none cells (suc j) h = rw (h j (omega arith)) (cells-none cells j (λ q l. h q (omega arith)))
@@ -143,21 +143,21 @@ module _ {Frame : Type 0} (msg : ℕ → Option Frame) (q : ℕ) (f : Frame) whe
 
 -- One frame more, of board q.
 module _ (r : Record) (msg : ℕ → Option (List ℕ)) (q : ℕ) (f : List ℕ) where
-  accepts-here : due (r .plan) q (r .board) (r .round) ≡ true → accepts (r .plan) (r .board) (r .round) (r .detected) (update msg q f) q ≡ true
+  accepts-here : due (r .plan) q (r .board) (r .round) ≡ true → accepts (r .plan) (r .board) (r .round) (r .list) (update msg q f) q ≡ true
   unfolding accepts isGiven
   accepts-here d = and-true (due (r .plan) q (r .board) (r .round)) (isGiven (update msg q f q)) d (ap isGiven (update-here msg q f))
 
-  accepts-other : (x : ℕ) → x ≢ q → accepts (r .plan) (r .board) (r .round) (r .detected) (update msg q f) x ≡ accepts (r .plan) (r .board) (r .round) (r .detected) msg x
+  accepts-other : (x : ℕ) → x ≢ q → accepts (r .plan) (r .board) (r .round) (r .list) (update msg q f) x ≡ accepts (r .plan) (r .board) (r .round) (r .list) msg x
   unfolding accepts
   accepts-other x ne = ap (λ o. due (r .plan) x (r .board) (r .round) && isGiven o) (update-other msg q f x ne)
 
-  content-here : content (r .plan) (r .board) (r .round) (r .detected) (update msg q f) q ≡ counted (r .detected) q (sent (r .plan) q (r .board) (r .round)) f
+  content-here : content (r .plan) (r .board) (r .round) (r .list) (update msg q f) q ≡ counted (r .list) q (sent (r .plan) q (r .board) (r .round)) f
   unfolding content
-  content-here = ap (λ o. counted (r .detected) q (sent (r .plan) q (r .board) (r .round)) (Option·getD o [])) (update-here msg q f)
+  content-here = ap (λ o. counted (r .list) q (sent (r .plan) q (r .board) (r .round)) (Option·getD o [])) (update-here msg q f)
 
-  content-other : (x : ℕ) → x ≢ q → content (r .plan) (r .board) (r .round) (r .detected) (update msg q f) x ≡ content (r .plan) (r .board) (r .round) (r .detected) msg x
+  content-other : (x : ℕ) → x ≢ q → content (r .plan) (r .board) (r .round) (r .list) (update msg q f) x ≡ content (r .plan) (r .board) (r .round) (r .list) msg x
   unfolding content
-  content-other x ne = ap (λ o. counted (r .detected) x (sent (r .plan) x (r .board) (r .round)) (Option·getD o [])) (update-other msg q f x ne)
+  content-other x ne = ap (λ o. counted (r .list) x (sent (r .plan) x (r .board) (r .round)) (Option·getD o [])) (update-other msg q f x ne)
 
   alike-before : Alike r (update msg q f) msg q
   alike-before = record {
@@ -167,13 +167,13 @@ module _ (r : Record) (msg : ℕ → Option (List ℕ)) (q : ℕ) (f : List ℕ)
 
   module _ (g : Good r) (undecided : r .decided ≡ false) (cells : List ℕ) (room : cellCount (r .plan .n) ≤ length cells)
       (lq : q < r .plan .n) (d : due (r .plan) q (r .board) (r .round) ≡ true) (new : msg q ≡ none) where
-    accepts-not : accepts (r .plan) (r .board) (r .round) (r .detected) msg q ≡ false
+    accepts-not : accepts (r .plan) (r .board) (r .round) (r .list) msg q ≡ false
     unfolding accepts isGiven
     accepts-not = rw (new, d)
 
     cells-more : (j : ℕ) → q < j → j ≤ r .plan .n
-        → heardCells (r .plan) (r .board) (r .round) (r .detected) (update msg q f) cells j
-        ≡ fill (r .plan) q (sent (r .plan) q (r .board) (r .round)) (counted (r .detected) q (sent (r .plan) q (r .board) (r .round)) f) (heardCells (r .plan) (r .board) (r .round) (r .detected) msg cells j)
+        → heardCells (r .plan) (r .board) (r .round) (r .list) (update msg q f) cells j
+        ≡ fill (r .plan) q (sent (r .plan) q (r .board) (r .round)) (counted (r .list) q (sent (r .plan) q (r .board) (r .round)) f) (heardCells (r .plan) (r .board) (r .round) (r .list) msg cells j)
     unfolding heardCells
     cells-more zero lt h = absurd (omega arith)
     cells-more (suc j) lt h =
@@ -184,21 +184,21 @@ module _ (r : Record) (msg : ℕ → Option (List ℕ)) (q : ℕ) (f : List ℕ)
         (ap₂ (fill p q αs) content-here (cells-same r (update msg q f) msg cells q alike-before)))
         (λ e. let ne : j ≢ q = eqb-false j q e in
         let ih = cells-more j (omega arith) (omega arith) in
-        cases (accepts (r .plan) (r .board) (r .round) (r .detected) msg j)
+        cases (accepts (r .plan) (r .board) (r .round) (r .list) msg j)
         (λ t. rw (t, accepts-other j ne ∙ t)
         (ap₂ (fill p j (sent p j (r .board) (r .round))) (content-other j ne) ih
-        ∙ fill-commutes p (good-dealer r g) (r .board) (r .round) (r .round) (g .position .round-low) (g .position .round-low) j q (content (r .plan) (r .board) (r .round) (r .detected) msg j) (counted (r .detected) q αs f) (heardCells (r .plan) (r .board) (r .round) (r .detected) msg cells j) (inl ne) h lq))
+        ∙ fill-commutes p (good-dealer r g) (r .board) (r .round) (r .round) (g .position .round-low) (g .position .round-low) j q (content (r .plan) (r .board) (r .round) (r .list) msg j) (counted (r .list) q αs f) (heardCells (r .plan) (r .board) (r .round) (r .list) msg cells j) (inl ne) h lq))
         (λ t. rw (t, accepts-other j ne ∙ t) ih))
 
-    marks-more : marks (r .plan) (r .board) (r .round) (r .detected) (update msg q f) (r .plan .n) ≡ insert q (marks (r .plan) (r .board) (r .round) (r .detected) msg (r .plan .n))
+    marks-more : marks (r .plan) (r .board) (r .round) (r .list) (update msg q f) (r .plan .n) ≡ insert q (marks (r .plan) (r .board) (r .round) (r .list) msg (r .plan .n))
     marks-more =
         let n = r .plan .n in
-        same-members n (marks (r .plan) (r .board) (r .round) (r .detected) (update msg q f) n) (insert q (marks (r .plan) (r .board) (r .round) (r .detected) msg n))
+        same-members n (marks (r .plan) (r .board) (r .round) (r .list) (update msg q f) n) (insert q (marks (r .plan) (r .board) (r .round) (r .list) msg n))
         (marks-below r g undecided (update msg q f) cells room n (omega arith))
-        (insert-below n q (marks (r .plan) (r .board) (r .round) (r .detected) msg n) lq (marks-below r g undecided msg cells room n (omega arith)))
-        (λ x l. marks-at (r .plan) (r .board) (r .round) (r .detected) (update msg q f) n x l ∙ cases (eqb x q)
-        (λ e. rw (eqb-true x q e) (accepts-here d ∙ sym (member-insert q q (marks (r .plan) (r .board) (r .round) (r .detected) msg n) ∙ rw (eq-eqb q q refl))))
-        (λ e. accepts-other x (eqb-false x q e) ∙ sym (member-insert x q (marks (r .plan) (r .board) (r .round) (r .detected) msg n) ∙ rw e (marks-at (r .plan) (r .board) (r .round) (r .detected) msg n x l))))
+        (insert-below n q (marks (r .plan) (r .board) (r .round) (r .list) msg n) lq (marks-below r g undecided msg cells room n (omega arith)))
+        (λ x l. marks-at (r .plan) (r .board) (r .round) (r .list) (update msg q f) n x l ∙ cases (eqb x q)
+        (λ e. rw (eqb-true x q e) (accepts-here d ∙ sym (member-insert q q (marks (r .plan) (r .board) (r .round) (r .list) msg n) ∙ rw (eq-eqb q q refl))))
+        (λ e. accepts-other x (eqb-false x q e) ∙ sym (member-insert x q (marks (r .plan) (r .board) (r .round) (r .list) msg n) ∙ rw e (marks-at (r .plan) (r .board) (r .round) (r .list) msg n x l))))
 
 not-given : (o : Option (List ℕ)) → isGiven o ≡ false → o ≡ none
 unfolding isGiven
@@ -229,13 +229,13 @@ module _ (r : Record) (g : Good r) (undecided : r .decided ≡ false) (cells : L
 
   -- How the next frame is judged.
   pub heard-judged : (msg : ℕ → Option (List ℕ)) (q : ℕ)
-      → judgeReceiving (heardAll msg) q ≡ cond (due (r .plan) q (r .board) (r .round)) (cond (accepts (r .plan) (r .board) (r .round) (r .detected) msg q) (refused 15) (taken [])) (refused 14)
+      → judgeReceiving (heardAll msg) q ≡ cond (due (r .plan) q (r .board) (r .round)) (cond (accepts (r .plan) (r .board) (r .round) (r .list) msg q) (refused 15) (taken [])) (refused 14)
   unfolding judgeReceiving
   heard-judged msg q =
       taken-first (judgeOpen (heardAll msg)) _
       (ap (λ o. o .number) (open-taken (heardAll msg) (heard-open r g undecided msg cells room (r .plan .n) (omega arith))))
       ∙ cases (due (r .plan) q (r .board) (r .round))
-      (λ d. ap (λ b. cond (due (r .plan) q (r .board) (r .round)) (cond b (refused 15) (taken [])) (refused 14)) (marks-at (r .plan) (r .board) (r .round) (r .detected) msg (r .plan .n) q (due-sender (r .plan) q (r .board) (r .round) d)))
+      (λ d. ap (λ b. cond (due (r .plan) q (r .board) (r .round)) (cond b (refused 15) (taken [])) (refused 14)) (marks-at (r .plan) (r .board) (r .round) (r .list) msg (r .plan .n) q (due-sender (r .plan) q (r .board) (r .round) d)))
       (λ d. rw d)
 
   -- A frame that is taken was due, and the first of its sender.
@@ -252,8 +252,8 @@ module _ (r : Record) (g : Good r) (undecided : r .decided ≡ false) (cells : L
       (λ d. absurd (let z : 14 ≡ 0 = rw d at j in omega arith))
 
   -- Boards told the same, as far as they take it, hold the same.
-  pub heard-same : (msg msg′ : ℕ → Option (List ℕ)) → ((q : ℕ) → q < r .plan .n → accepts (r .plan) (r .board) (r .round) (r .detected) msg q ≡ accepts (r .plan) (r .board) (r .round) (r .detected) msg′ q)
-      → ((q : ℕ) → q < r .plan .n → accepts (r .plan) (r .board) (r .round) (r .detected) msg q ≡ true → content (r .plan) (r .board) (r .round) (r .detected) msg q ≡ content (r .plan) (r .board) (r .round) (r .detected) msg′ q) → heardAll msg ≡ heardAll msg′
+  pub heard-same : (msg msg′ : ℕ → Option (List ℕ)) → ((q : ℕ) → q < r .plan .n → accepts (r .plan) (r .board) (r .round) (r .list) msg q ≡ accepts (r .plan) (r .board) (r .round) (r .list) msg′ q)
+      → ((q : ℕ) → q < r .plan .n → accepts (r .plan) (r .board) (r .round) (r .list) msg q ≡ true → content (r .plan) (r .board) (r .round) (r .list) msg q ≡ content (r .plan) (r .board) (r .round) (r .list) msg′ q) → heardAll msg ≡ heardAll msg′
   heard-same msg msg′ a c =
       let h : Alike r msg msg′ (r .plan .n) = record { same-accepts = a; same-content = c } in
       ap₂ (holding r) (marks-same r msg msg′ (r .plan .n) h) (cells-same r msg msg′ cells (r .plan .n) h)
@@ -262,12 +262,12 @@ module _ (r : Record) (g : Good r) (undecided : r .decided ≡ false) (cells : L
   pub heard-none : (msg : ℕ → Option (List ℕ)) → ((q : ℕ) → q < r .plan .n → msg q ≡ none) → heardAll msg ≡ boardWith (withMarks r 0) cells
   unfolding accepts isGiven
   heard-none msg h =
-      let a : (q : ℕ) → q < r .plan .n → accepts (r .plan) (r .board) (r .round) (r .detected) msg q ≡ false = λ q l. rw (h q l) (and-false (due (r .plan) q (r .board) (r .round))) in
+      let a : (q : ℕ) → q < r .plan .n → accepts (r .plan) (r .board) (r .round) (r .list) msg q ≡ false = λ q l. rw (h q l) (and-false (due (r .plan) q (r .board) (r .round))) in
       ap₂ (holding r) (marks-none r msg (r .plan .n) a) (cells-none r msg cells (r .plan .n) a)
 
   -- A board sends cells of the level before, which hearing leaves alone.
   sent-kept : (msg : ℕ → Option (List ℕ)) (j : ℕ) (α : Label) → j ≤ r .plan .n → List·Memᴰ α (sent (r .plan) (r .board) (r .board) (r .round))
-      → cellAt (r .plan .n) (heardCells (r .plan) (r .board) (r .round) (r .detected) msg cells j) α ≡ cellAt (r .plan .n) cells α
+      → cellAt (r .plan .n) (heardCells (r .plan) (r .board) (r .round) (r .list) msg cells j) α ≡ cellAt (r .plan .n) cells α
   sent-kept msg j α h m =
       let p = r .plan in
       let i = r .board in

@@ -91,7 +91,7 @@ marked-good r g t h = record {
   below = g .below;
   other = g .other;
   position = g .position;
-  detected-below = g .detected-below;
+  list-below = g .list-below;
   marks-below = h;
   decision-below = g .decision-below;
 }
@@ -104,35 +104,35 @@ module _ (r : Record) (g : Good r) (undecided : r .decided ≡ false) (msg : ℕ
   abbrev l : r .plan .dealer < r .plan .n
   l = good-dealer r g
 
-  pub marks-below : (j : ℕ) → j ≤ p .n → marks (r .plan) (r .board) (r .round) (r .detected) msg j < 2 ^ p .n
+  pub marks-below : (j : ℕ) → j ≤ p .n → marks (r .plan) (r .board) (r .round) (r .list) msg j < 2 ^ p .n
   unfolding marks
   marks-below zero h = pow-pos (p .n)
   marks-below (suc j) h =
       let ih = marks-below j (omega arith) in
-      cases (accepts (r .plan) (r .board) (r .round) (r .detected) msg j) (λ e. rw e (insert-below (p .n) j (marks (r .plan) (r .board) (r .round) (r .detected) msg j) (omega arith) ih)) (λ e. rw e ih)
+      cases (accepts (r .plan) (r .board) (r .round) (r .list) msg j) (λ e. rw e (insert-below (p .n) j (marks (r .plan) (r .board) (r .round) (r .list) msg j) (omega arith) ih)) (λ e. rw e ih)
 
-  pub heard-length : (j : ℕ) → length (heardCells (r .plan) (r .board) (r .round) (r .detected) msg cells j) ≡ length cells
+  pub heard-length : (j : ℕ) → length (heardCells (r .plan) (r .board) (r .round) (r .list) msg cells j) ≡ length cells
   unfolding heardCells
   heard-length zero = refl
   heard-length (suc q) =
       let ih = heard-length q in
-      cases (accepts (r .plan) (r .board) (r .round) (r .detected) msg q)
-      (λ e. rw e (fill-length p l q (sent p q (r .board) (r .round)) (content (r .plan) (r .board) (r .round) (r .detected) msg q) (heardCells (r .plan) (r .board) (r .round) (r .detected) msg cells q) ∙ ih))
+      cases (accepts (r .plan) (r .board) (r .round) (r .list) msg q)
+      (λ e. rw e (fill-length p l q (sent p q (r .board) (r .round)) (content (r .plan) (r .board) (r .round) (r .list) msg q) (heardCells (r .plan) (r .board) (r .round) (r .list) msg cells q) ∙ ih))
       (λ e. rw e ih)
 
   -- The board when it has heard the boards below j.
   abbrev pub heard : ℕ → Board
-  heard j = boardWith (withMarks r (marks (r .plan) (r .board) (r .round) (r .detected) msg j)) (heardCells (r .plan) (r .board) (r .round) (r .detected) msg cells j)
+  heard j = boardWith (withMarks r (marks (r .plan) (r .board) (r .round) (r .list) msg j)) (heardCells (r .plan) (r .board) (r .round) (r .list) msg cells j)
 
   pub heard-open : (j : ℕ) → j ≤ p .n → Open (heard j)
-  heard-open j h = record { good = marked-good r g (marks (r .plan) (r .board) (r .round) (r .detected) msg j) (marks-below j h); room = rw (heard-length j) room; undecided = undecided }
+  heard-open j h = record { good = marked-good r g (marks (r .plan) (r .board) (r .round) (r .list) msg j) (marks-below j h); room = rw (heard-length j) room; undecided = undecided }
 
   -- One frame more.
   judged-due : (q : ℕ) → q < p .n → judgeReceiving (heard q) q ≡ cond (due p q (r .board) (r .round)) (taken []) (refused 14)
   unfolding judgeReceiving
   judged-due q h =
       taken-first (judgeOpen (heard q)) _ (ap (λ o. o .number) (open-taken (heard q) (heard-open q (omega arith))))
-      ∙ ap (λ b. cond (due p q (r .board) (r .round)) (cond b (refused 15) (taken [])) (refused 14)) (marks-low (r .plan) (r .board) (r .round) (r .detected) msg q q (omega arith))
+      ∙ ap (λ b. cond (due p q (r .board) (r .round)) (cond b (refused 15) (taken [])) (refused 14)) (marks-low (r .plan) (r .board) (r .round) (r .list) msg q q (omega arith))
 
   one-more : (q : ℕ) (o : Option (List ℕ)) → msg q ≡ o → q < p .n → handIn q o (heard q) ≡ heard (suc q)
   unfolding handIn marks heardCells accepts isGiven content counted
@@ -223,27 +223,27 @@ module _ (r : Record) (g : Good r) (undecided : r .decided ≡ false) (msg : ℕ
 
   -- The record when all are heard.
   abbrev pub marked : Record
-  marked = withMarks r (marks (r .plan) (r .board) (r .round) (r .detected) msg (r .plan .n))
+  marked = withMarks r (marks (r .plan) (r .board) (r .round) (r .list) msg (r .plan .n))
 
   unfoldable pub stored : List ℕ
-  stored = fillMissing (marked .plan) (marked .board) (marked .round) (marked .marks) (r .plan .n) (heardCells (r .plan) (r .board) (r .round) (r .detected) msg cells (r .plan .n))
+  stored = fillMissing (marked .plan) (marked .board) (marked .round) (marked .marks) (r .plan .n) (heardCells (r .plan) (r .board) (r .round) (r .list) msg cells (r .plan .n))
 
   unfoldable pub filled : List ℕ
   filled = copyOwn (marked .plan) (marked .board) (marked .round) stored
 
-  pub heard-outside : (j : ℕ) → j ≤ P₀ .n → SameOutside P₀ L₀ (r .board) (r .round .0) cells (heardCells (r .plan) (r .board) (r .round) (r .detected) msg cells j)
+  pub heard-outside : (j : ℕ) → j ≤ P₀ .n → SameOutside P₀ L₀ (r .board) (r .round .0) cells (heardCells (r .plan) (r .board) (r .round) (r .list) msg cells j)
   unfolding heardCells
   heard-outside zero h b γ m out = refl
   heard-outside (suc q) h b γ m out =
       let ih = heard-outside q (omega arith) b γ m out in
-      cases (accepts (r .plan) (r .board) (r .round) (r .detected) msg q)
-      (λ e. rw e (fill-outside P₀ L₀ (r .board) q (r .round) (content (r .plan) (r .board) (r .round) (r .detected) msg q) (heardCells (r .plan) (r .board) (r .round) (r .detected) msg cells q) low h b γ m out ∙ ih))
+      cases (accepts (r .plan) (r .board) (r .round) (r .list) msg q)
+      (λ e. rw e (fill-outside P₀ L₀ (r .board) q (r .round) (content (r .plan) (r .board) (r .round) (r .list) msg q) (heardCells (r .plan) (r .board) (r .round) (r .list) msg cells q) low h b γ m out ∙ ih))
       (λ e. rw e ih)
 
   stored-outside : SameOutside P₀ L₀ (r .board) (r .round .0) cells stored
   unfolding stored
   stored-outside b γ m out =
-      missing-outside marked L₀ low (g .below) (P₀ .n) (heardCells (r .plan) (r .board) (r .round) (r .detected) msg cells (P₀ .n)) (omega arith) b γ m out
+      missing-outside marked L₀ low (g .below) (P₀ .n) (heardCells (r .plan) (r .board) (r .round) (r .list) msg cells (P₀ .n)) (omega arith) b γ m out
       ∙ heard-outside (P₀ .n) (omega arith) b γ m out
 
   -- Cells of other levels are as they were.
@@ -254,7 +254,7 @@ module _ (r : Record) (g : Good r) (undecided : r .decided ≡ false) (msg : ℕ
   stored-length : length stored ≡ length cells
   unfolding stored
   stored-length =
-      missing-length marked L₀ low (g .below) (P₀ .n) (heardCells (r .plan) (r .board) (r .round) (r .detected) msg cells (P₀ .n)) ∙ heard-length r g undecided msg cells room (P₀ .n)
+      missing-length marked L₀ low (g .below) (P₀ .n) (heardCells (r .plan) (r .board) (r .round) (r .list) msg cells (P₀ .n)) ∙ heard-length r g undecided msg cells room (P₀ .n)
 
   pub filled-length : length filled ≡ length cells
   unfolding filled
@@ -265,20 +265,20 @@ module _ (r : Record) (g : Good r) (undecided : r .decided ≡ false) (msg : ℕ
     label = sent-label P₀ L₀ (r .board) (r .round) low q α lq m
 
     -- A frame that was taken stands until all are heard.
-    heard-at : (j : ℕ) → j ≤ P₀ .n → q < j → accepts (r .plan) (r .board) (r .round) (r .detected) msg q ≡ true
-        → cellAt (P₀ .n) (heardCells (r .plan) (r .board) (r .round) (r .detected) msg cells j) (q ∷ α)
-        ≡ cellAt (P₀ .n) (fill P₀ q (sent P₀ q (r .board) (r .round)) (content (r .plan) (r .board) (r .round) (r .detected) msg q) (heardCells (r .plan) (r .board) (r .round) (r .detected) msg cells q)) (q ∷ α)
+    heard-at : (j : ℕ) → j ≤ P₀ .n → q < j → accepts (r .plan) (r .board) (r .round) (r .list) msg q ≡ true
+        → cellAt (P₀ .n) (heardCells (r .plan) (r .board) (r .round) (r .list) msg cells j) (q ∷ α)
+        ≡ cellAt (P₀ .n) (fill P₀ q (sent P₀ q (r .board) (r .round)) (content (r .plan) (r .board) (r .round) (r .list) msg q) (heardCells (r .plan) (r .board) (r .round) (r .list) msg cells q)) (q ∷ α)
     unfolding heardCells
     heard-at zero h lt a = absurd (omega arith)
     heard-at (suc j) h lt a =
         cases (eqb q j)
         (λ e. let z = eqb-true q j e in
-        subst (λ x. cellAt (P₀ .n) (cond (accepts (r .plan) (r .board) (r .round) (r .detected) msg x) (fill P₀ x (sent P₀ x (r .board) (r .round)) (content (r .plan) (r .board) (r .round) (r .detected) msg x) (heardCells (r .plan) (r .board) (r .round) (r .detected) msg cells x)) (heardCells (r .plan) (r .board) (r .round) (r .detected) msg cells x)) (q ∷ α)
-        ≡ cellAt (P₀ .n) (fill P₀ q (sent P₀ q (r .board) (r .round)) (content (r .plan) (r .board) (r .round) (r .detected) msg q) (heardCells (r .plan) (r .board) (r .round) (r .detected) msg cells q)) (q ∷ α)) z (rw a))
+        subst (λ x. cellAt (P₀ .n) (cond (accepts (r .plan) (r .board) (r .round) (r .list) msg x) (fill P₀ x (sent P₀ x (r .board) (r .round)) (content (r .plan) (r .board) (r .round) (r .list) msg x) (heardCells (r .plan) (r .board) (r .round) (r .list) msg cells x)) (heardCells (r .plan) (r .board) (r .round) (r .list) msg cells x)) (q ∷ α)
+        ≡ cellAt (P₀ .n) (fill P₀ q (sent P₀ q (r .board) (r .round)) (content (r .plan) (r .board) (r .round) (r .list) msg q) (heardCells (r .plan) (r .board) (r .round) (r .list) msg cells q)) (q ∷ α)) z (rw a))
         (λ e. let ne : q ≢ j = eqb-false q j e in
         let ih = heard-at j (omega arith) (omega arith) a in
-        cases (accepts (r .plan) (r .board) (r .round) (r .detected) msg j)
-        (λ x. rw x (other-sender P₀ L₀ (r .board) (r .round) low q j (content (r .plan) (r .board) (r .round) (r .detected) msg j) (heardCells (r .plan) (r .board) (r .round) (r .detected) msg cells j) (r .round .0) α ne h label ∙ ih))
+        cases (accepts (r .plan) (r .board) (r .round) (r .list) msg j)
+        (λ x. rw x (other-sender P₀ L₀ (r .board) (r .round) low q j (content (r .plan) (r .board) (r .round) (r .list) msg j) (heardCells (r .plan) (r .board) (r .round) (r .list) msg cells j) (r .round .0) α ne h label ∙ ih))
         (λ x. rw x ih))
 
     -- Another board's child is stored before the own copies.
@@ -287,46 +287,46 @@ module _ (r : Record) (g : Good r) (undecided : r .decided ≡ false) (msg : ℕ
     own-keeps ne =
         other-sender P₀ L₀ (r .board) (r .round) low q (r .board) (frame P₀ (r .board) (r .board) (r .round) stored) stored (r .round .0) α ne (g .below) label
 
-    heard-room : cellCount (P₀ .n) ≤ length (heardCells (r .plan) (r .board) (r .round) (r .detected) msg cells q)
+    heard-room : cellCount (P₀ .n) ≤ length (heardCells (r .plan) (r .board) (r .round) (r .list) msg cells q)
     heard-room = rw (heard-length r g undecided msg cells room q) room
 
-    taken-cell : q ≢ r .board → accepts (r .plan) (r .board) (r .round) (r .detected) msg q ≡ true
+    taken-cell : q ≢ r .board → accepts (r .plan) (r .board) (r .round) (r .list) msg q ≡ true
         → cellAt (P₀ .n) filled (q ∷ α)
-        ≡ cellAt (P₀ .n) (fill P₀ q (sent P₀ q (r .board) (r .round)) (content (r .plan) (r .board) (r .round) (r .detected) msg q) (heardCells (r .plan) (r .board) (r .round) (r .detected) msg cells q)) (q ∷ α)
+        ≡ cellAt (P₀ .n) (fill P₀ q (sent P₀ q (r .board) (r .round)) (content (r .plan) (r .board) (r .round) (r .list) msg q) (heardCells (r .plan) (r .board) (r .round) (r .list) msg cells q)) (q ∷ α)
     unfolding stored
     taken-cell ne a =
         own-keeps ne
-        ∙ missing-keeps marked L₀ low (g .below) q α m lq (P₀ .n) (heardCells (r .plan) (r .board) (r .round) (r .detected) msg cells (P₀ .n)) (omega arith) (marks-at (r .plan) (r .board) (r .round) (r .detected) msg (P₀ .n) q lq ∙ a)
+        ∙ missing-keeps marked L₀ low (g .below) q α m lq (P₀ .n) (heardCells (r .plan) (r .board) (r .round) (r .list) msg cells (P₀ .n)) (omega arith) (marks-at (r .plan) (r .board) (r .round) (r .list) msg (P₀ .n) q lq ∙ a)
         ∙ heard-at (P₀ .n) (omega arith) lq a
 
-    missed-cell : q ≢ r .board → due P₀ q (r .board) (r .round) ≡ true → accepts (r .plan) (r .board) (r .round) (r .detected) msg q ≡ false → cellAt (P₀ .n) filled (q ∷ α) ≡ default P₀
+    missed-cell : q ≢ r .board → due P₀ q (r .board) (r .round) ≡ true → accepts (r .plan) (r .board) (r .round) (r .list) msg q ≡ false → cellAt (P₀ .n) filled (q ∷ α) ≡ default P₀
     unfolding stored
     missed-cell ne d a =
         own-keeps ne
-        ∙ missing-default marked L₀ low (g .below) q α m lq (P₀ .n) (heardCells (r .plan) (r .board) (r .round) (r .detected) msg cells (P₀ .n)) (omega arith) lq
-        (rw (heard-length r g undecided msg cells room (P₀ .n)) room) d (marks-at (r .plan) (r .board) (r .round) (r .detected) msg (P₀ .n) q lq ∙ a)
+        ∙ missing-default marked L₀ low (g .below) q α m lq (P₀ .n) (heardCells (r .plan) (r .board) (r .round) (r .list) msg cells (P₀ .n)) (omega arith) lq
+        (rw (heard-length r g undecided msg cells room (P₀ .n)) room) d (marks-at (r .plan) (r .board) (r .round) (r .list) msg (P₀ .n) q lq ∙ a)
 
     -- A listed board counts as silent.
-    pub silenced : q ≢ r .board → due P₀ q (r .board) (r .round) ≡ true → member q (r .detected) ≡ true → read P₀ filled (q ∷ α) ≡ default P₀
+    pub silenced : q ≢ r .board → due P₀ q (r .board) (r .round) ≡ true → member q (r .list) ≡ true → read P₀ filled (q ∷ α) ≡ default P₀
     unfolding read content
     silenced ne d on =
         let αs = sent P₀ q (r .board) (r .round) in
-        cases (accepts (r .plan) (r .board) (r .round) (r .detected) msg q)
-        (λ a. let c : content (r .plan) (r .board) (r .round) (r .detected) msg q ≡ [] = listed-silent (r .detected) q αs (Option·getD (msg q) []) on in
-        ap (value P₀) (taken-cell ne a ∙ ap (λ vs. cellAt (P₀ .n) (fill P₀ q αs vs (heardCells (r .plan) (r .board) (r .round) (r .detected) msg cells q)) (q ∷ α)) c
-        ∙ stored-none P₀ L₀ (r .board) (r .round) low q (heardCells (r .plan) (r .board) (r .round) (r .detected) msg cells q) α lq heard-room m) ∙ value-default P₀)
+        cases (accepts (r .plan) (r .board) (r .round) (r .list) msg q)
+        (λ a. let c : content (r .plan) (r .board) (r .round) (r .list) msg q ≡ [] = listed-silent (r .list) q αs (Option·getD (msg q) []) on in
+        ap (value P₀) (taken-cell ne a ∙ ap (λ vs. cellAt (P₀ .n) (fill P₀ q αs vs (heardCells (r .plan) (r .board) (r .round) (r .list) msg cells q)) (q ∷ α)) c
+        ∙ stored-none P₀ L₀ (r .board) (r .round) low q (heardCells (r .plan) (r .board) (r .round) (r .list) msg cells q) α lq heard-room m) ∙ value-default P₀)
         (λ a. ap (value P₀) (missed-cell ne d a) ∙ value-default P₀)
 
     -- The frame of a board that is not listed, of the right length, is what is read.
-    pub delivered : (f : Label → ℕ) → q ≢ r .board → due P₀ q (r .board) (r .round) ≡ true → member q (r .detected) ≡ false
+    pub delivered : (f : Label → ℕ) → q ≢ r .board → due P₀ q (r .board) (r .round) ≡ true → member q (r .list) ≡ false
         → msg q ≡ some (map f (sent P₀ q (r .board) (r .round))) → f α < P₀ .span → read P₀ filled (q ∷ α) ≡ f α
     unfolding read accepts isGiven content counted
     delivered f ne d out e small =
         let αs = sent P₀ q (r .board) (r .round) in
-        let a : accepts (r .plan) (r .board) (r .round) (r .detected) msg q ≡ true = and-true (due P₀ q (r .board) (r .round)) (isGiven (msg q)) d (rw e) in
-        let c : content (r .plan) (r .board) (r .round) (r .detected) msg q ≡ map f αs = rw (e, out, eq-eqb (length (map f αs)) (length αs) (length-map αs f)) in
-        ap (value P₀) (taken-cell ne a ∙ ap (λ vs. cellAt (P₀ .n) (fill P₀ q αs vs (heardCells (r .plan) (r .board) (r .round) (r .detected) msg cells q)) (q ∷ α)) c
-        ∙ stored-map P₀ L₀ (r .board) (r .round) low q f (heardCells (r .plan) (r .board) (r .round) (r .detected) msg cells q) α lq heard-room m)
+        let a : accepts (r .plan) (r .board) (r .round) (r .list) msg q ≡ true = and-true (due P₀ q (r .board) (r .round)) (isGiven (msg q)) d (rw e) in
+        let c : content (r .plan) (r .board) (r .round) (r .list) msg q ≡ map f αs = rw (e, out, eq-eqb (length (map f αs)) (length αs) (length-map αs f)) in
+        ap (value P₀) (taken-cell ne a ∙ ap (λ vs. cellAt (P₀ .n) (fill P₀ q αs vs (heardCells (r .plan) (r .board) (r .round) (r .list) msg cells q)) (q ∷ α)) c
+        ∙ stored-map P₀ L₀ (r .board) (r .round) low q f (heardCells (r .plan) (r .board) (r .round) (r .list) msg cells q) α lq heard-room m)
         ∙ ap (value P₀) (value-same P₀ (f α) small) ∙ value-same P₀ (f α) small
 
   -- A board's own child has its own cell.

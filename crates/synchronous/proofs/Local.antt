@@ -66,13 +66,13 @@ module _ (p : Plan) (l : p .dealer < p .n) (i : ℕ) where
 
     pub detectG-outside : (s : Scan) → SameOutside k (s .cells) (detectG p i run round α s .cells)
     detectG-outside s b γ w out =
-        cases (passes p α (byCell p (s .cells) α) (s .detected))
+        cases (passes p α (byCell p (s .cells) α) (s .list))
         (λ e. rw (detectG-kept p i run round α s e) refl)
         (λ e. rw (detectG-joined p i run round α s e) (mask-outside (last α) k (nodes p i (suc (length α))) (s .cells) (λ x h. subst (λ z. List·Memᴰ x (nodes p i z)) next-level h) b γ w out))
 
     pub detectG-length : (s : Scan) → length (detectG p i run round α s .cells) ≡ length (s .cells)
     detectG-length s =
-        cases (passes p α (byCell p (s .cells) α) (s .detected))
+        cases (passes p α (byCell p (s .cells) α) (s .list))
         (λ e. rw (detectG-kept p i run round α s e) refl)
         (λ e. rw (detectG-joined p i run round α s e) (mask-length (last α) (nodes p i (suc (length α))) (s .cells)))
 
@@ -129,7 +129,7 @@ module _ (r : Record) (l : r .plan .dealer < r .plan .n) (low : 1 ≤ r .round .
   gather-outside cells b γ m out =
       let filled = fillMissing (r .plan) (r .board) (r .round) (r .marks) (r .plan .n) cells in
       detect-outside (r .plan) l (r .board) (r .run) (r .round) (r .round .0) (inner (r .plan) (r .board) (r .round .0 - 1))
-      (record { detected = r .detected; cells = copyOwn (r .plan) (r .board) (r .round) filled }) (λ _ w. w) low b γ m out
+      (record { list = r .list; cells = copyOwn (r .plan) (r .board) (r .round) filled }) (λ _ w. w) low b γ m out
       ∙ own-outside filled b γ m out ∙ missing-outside (r .plan .n) cells (omega arith) b γ m out
 
   pub gather-length : (cells : List ℕ) → length (gather (boardWith r cells) .cells) ≡ length cells
@@ -137,5 +137,5 @@ module _ (r : Record) (l : r .plan .dealer < r .plan .n) (low : 1 ≤ r .round .
   gather-length cells =
       let filled = fillMissing (r .plan) (r .board) (r .round) (r .marks) (r .plan .n) cells in
       detect-length (r .plan) l (r .board) (r .run) (r .round) (r .round .0) (inner (r .plan) (r .board) (r .round .0 - 1))
-      (record { detected = r .detected; cells = copyOwn (r .plan) (r .board) (r .round) filled }) (λ _ w. w) low
+      (record { list = r .list; cells = copyOwn (r .plan) (r .board) (r .round) filled }) (λ _ w. w) low
       ∙ own-length filled ∙ missing-length (r .plan .n) cells

@@ -47,7 +47,7 @@ module _ (s : Setting) (a : Adversary) (sound : Sound s) where
   pub part-heard : (j i q : ℕ) → keeper s i ≡ true → j < steps (s .plan) → q ≤ s .plan .n → MidStep s a j i (takeAll (told s a i j) (at s a j i) q)
   part-heard j i q k l h =
       let st = standing s a sound j i k l in
-      let r = canon s a sound i j (at s a j i .rec .detected) in
+      let r = canon s a sound i j (at s a j i .rec .list) in
       let cells = at s a j i .cells in
       let msg = told s a i j in
       let g : Good r = subst Good (st .shape) (st .good) in

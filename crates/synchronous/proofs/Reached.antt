@@ -52,7 +52,7 @@ fresh-good p i e l ne = record {
     round-later = λ x. absurd (x refl);
     round-high = rounds-pos p;
   };
-  detected-below = pow-pos (p .n);
+  list-below = pow-pos (p .n);
   marks-below = pow-pos (p .n);
   decision-below = λ x. clash x refl;
 }
@@ -64,12 +64,12 @@ receive-good q f b g l = record {
   below = g .below;
   other = g .other;
   position = g .position;
-  detected-below = g .detected-below;
+  list-below = g .list-below;
   marks-below = insert-below (b .rec .plan .n) q (b .rec .marks) l (g .marks-below);
   decision-below = g .decision-below;
 }
 
-pub next-good : (b : Board) (s : Scan) → Good (b .rec) → s .detected < 2 ^ b .rec .plan .n → b .rec .round .0 < rounds (b .rec .plan) .0
+pub next-good : (b : Board) (s : Scan) → Good (b .rec) → s .list < 2 ^ b .rec .plan .n → b .rec .round .0 < rounds (b .rec .plan) .0
     → Good (nextRound b s .rec)
 unfolding nextRound
 next-good b s g d l = record {
@@ -83,18 +83,18 @@ next-good b s g d l = record {
     round-later = λ x. omega (arith, g .position .round-low);
     round-high = omega arith;
   };
-  detected-below = d;
+  list-below = d;
   marks-below = pow-pos (b .rec .plan .n);
   decision-below = λ x. clash x refl;
 }
 
-pub convert-good : (b : Board) (s : Scan) → Good (b .rec) → s .detected < 2 ^ b .rec .plan .n → Good (convert b s .rec)
+pub convert-good : (b : Board) (s : Scan) → Good (b .rec) → s .list < 2 ^ b .rec .plan .n → Good (convert b s .rec)
 unfolding convert runEnded
 convert-good b s g d =
     let r = b .rec in
     let p = r .plan in
     let two = plan-facts p (g .plan-good) .two-values in
-    let listed-below = levels-below p (good-dealer r g) (r .board) (r .run) (r .round) (s .cells) (rounds p .0 - 1) (s .detected) d in
+    let listed-below = levels-below p (good-dealer r g) (r .board) (r .run) (r .round) (s .cells) (rounds p .0 - 1) (s .list) d in
     cases (eqb (r .run .0) (runs p .0))
     (λ e. let small : convert b s .rec .decision < p .span =
     subst {A = ℕ} (λ v. v < p .span) (sym (decides-root b s e)) (root-small p (omega arith) (r .board) (s .cells)) in
@@ -103,7 +103,7 @@ convert-good b s g d =
       below = g .below;
       other = g .other;
       position = g .position;
-      detected-below = listed-below;
+      list-below = listed-below;
       marks-below = pow-pos (p .n);
       decision-below = λ _. rw e at small;
     }))
@@ -119,7 +119,7 @@ convert-good b s g d =
         round-later = λ _. omega arith;
         round-high = later-rounds p (g .plan-good) (omega (arith, g .position .run-high, g .position .run-low));
       };
-      detected-below = listed-below;
+      list-below = listed-below;
       marks-below = pow-pos (p .n);
       decision-below = λ x. clash x refl;
     }))
@@ -127,7 +127,7 @@ convert-good b s g d =
 pub close-good : (b : Board) → Good (b .rec) → Good (close b .rec)
 unfolding close
 close-good b g =
-    let d = gather-below b (good-dealer (b .rec) g) (g .detected-below) in
+    let d = gather-below b (good-dealer (b .rec) g) (g .list-below) in
     cases (ltb (b .rec .round .0) (rounds (b .rec .plan) .0))
     (λ e. rw e (next-good b (gather b) g d (ltb-true (b .rec .round .0) (rounds (b .rec .plan) .0) e)))
     (λ e. rw e (convert-good b (gather b) g d))
@@ -199,7 +199,7 @@ receive-vacant q f b o lq h l k α m v =
     let i = b .rec .board in
     let αs = sent p q i (b .rec .round) in
     ap (λ c. cellAt (p .n) c α) (frame-stored q f b)
-    ∙ fill-other p l q (b .rec .round .0) αs (counted (b .rec .detected) q αs f) (b .cells) k α
+    ∙ fill-other p l q (b .rec .round .0) αs (counted (b .rec .list) q αs f) (b .cells) k α
     (λ β w. node-label p i (b .rec .round .0) (q ∷ β) (sent-node p i q (b .rec .round) β (o .good .position .round-low) lq w)) m
     (apart q f b o lq l k α m v)
     ∙ h l k α m (still q f b o lq l k α v)
@@ -270,7 +270,7 @@ unfolding receive
 receive-length q f b o =
     let r = b .rec in
     let αs = sent (r .plan) q (r .board) (r .round) in
-    fill-length (r .plan) (good-dealer r (o .good)) q αs (counted (r .detected) q αs f) (b .cells)
+    fill-length (r .plan) (good-dealer r (o .good)) q αs (counted (r .list) q αs f) (b .cells)
 
 pub root-only-length : (n root : ℕ) (cells : List ℕ) → 0 < cellCount n → cellCount n ≤ length cells → length (rootOnly n root cells) ≡ length cells
 unfolding rootOnly

@@ -9,11 +9,11 @@ use mathlib.Core.Option.{Option}
 use native.Mathlib.Omega.{arith}
 use native.Mathlib.Nat.{zero-mul}
 use lib.Dec.{eqb, ltb}
-use lib.ListN.{length, getD}
+use lib.ListN.{length}
 use borrow.Author.Tests.{eqb-false, ne-eqb, ltb-true, ltb-false, lt-ltb, le-ltb, eqb-true}
 use Rattle.sets.specs.Sets.{member}
 use Rattle.sets.proofs.Tests.{cases, and-l, and-r, not-t}
-use Rattle.refusals.specs.Outcome.{taken, andThen}
+use Rattle.refusals.specs.Outcome.{andThen}
 use Rattle.refusals.proofs.Outcomes.{taken-first}
 use Rattle.plan.specs.declared.plan.Plan.{Plan}
 use Rattle.plan.specs.Calls.{judged}
@@ -27,7 +27,8 @@ use Rattle.protocol.specs.declared.records.Record.{Record}
 use Rattle.protocol.specs.Records.{standingAt, runEnded, withMarks}
 use Rattle.protocol.specs.Rounds.{boardWith, Board, gather, nextRound, convert, close, cleared}
 use Rattle.protocol.specs.Calls.{judgeBoard, judgeBeginning, freshRecord, beginning, closing}
-use Rattle.protocol.specs.Session.{table, Adversary, Setting, Boards, nobody, boardAt, begun, hears, hearAll, session, at, takeAll, keeper, Sound}
+use Rattle.sets.proofs.Tabulated.{tabulate-at}
+use Rattle.protocol.specs.Session.{Adversary, Setting, Boards, nobody, boardAt, begun, hears, hearAll, session, at, takeAll, keeper, Sound}
 use Rattle.protocol.proofs.Judgement.{Good, Open, open-taken, board-taken, cells-taken, taken-is}
 use Rattle.protocol.proofs.Taken.{closing-taken}
 use Rattle.synchronous.proofs.Reached.{fresh-good, close-good, close-length}
@@ -35,16 +36,10 @@ use Rattle.synchronous.proofs.Hearing.{marks, heardCells, heard-open, h
 use Rattle.protocol.specs.Detection.{detectLevels}
 use Rattle.protocol.proofs.Turns.{begun-length}
 
-pub table-at : {A : Type 0} (f : ℕ → A) (k i c : ℕ) (x : A) → c < k → getD (table f i k) c x ≡ f (i + c)
-unfolding table
-table-at f zero i c x l = absurd (omega arith)
-table-at f (suc k) i zero x l = ap f (let z : i ≡ i + 0 = omega arith in z)
-table-at f (suc k) i (suc c) x l = table-at f k (suc i) c x (omega arith) ∙ ap f (let z : suc i + c ≡ i + suc c = omega arith in z)
-
 module _ (s : Setting) (a : Adversary) where
   pub at-start : (i : ℕ) → i < s .plan .n → at s a 0 i ≡ begun s i
   unfolding at session boardAt
-  at-start i l = table-at (begun s) (s .plan .n) 0 i nobody l ∙ ap (begun s) (let z : 0 + i ≡ i = omega arith in z)
+  at-start i l = tabulate-at (begun s) (s .plan .n) i nobody l
 
   pub hear-all : (w : Boards) (i j k : ℕ) → hearAll s a w i j k ≡ takeAll (hears s a w i j) (boardAt w i) k
   unfolding hearAll
@@ -58,7 +53,7 @@ module _ (s : Setting) (a : Adversary) where
   unfolding at session boardAt
   at-next i j l =
       let f : ℕ → Board = λ i. closing (hearAll s a (session s a j) i j (s .plan .n)) .board in
-      table-at f (s .plan .n) 0 i nobody l ∙ ap f (let z : 0 + i ≡ i = omega arith in z)
+      tabulate-at f (s .plan .n) i nobody l
       ∙ ap (λ b. closing b .board) (hear-all (session s a j) i j (s .plan .n))
 
 -- Positions: the round after a round.
@@ -108,10 +103,10 @@ module _ (s : Setting) (a : Adversary) (sound : Sound s) where
 
   -- The record of board i in step j, counted from 0, with a list.
   abbrev pub canon : ℕ → ℕ → ℕ → Record
-  canon i j detected = standingAt plan i (stepRun plan (suc j)) (stepRound plan (suc j)) detected
+  canon i j list = standingAt plan i (stepRun plan (suc j)) (stepRound plan (suc j)) list
 
   pub record Standing (j i : ℕ) : Type 0 where
-    pub shape : at s a j i .rec ≡ canon i j (at s a j i .rec .detected)
+    pub shape : at s a j i .rec ≡ canon i j (at s a j i .rec .list)
     pub good : Good (at s a j i .rec)
     pub room : cellCount (plan .n) ≤ length (at s a j i .cells)
 
@@ -158,7 +153,7 @@ module _ (s : Setting) (a : Adversary) (sound : Sound s) where
       let cells = cleared (plan .n) (s .buffer i) in
       let b : Board = boardWith (freshRecord plan i) cells in
       record {
-        shape = subst (λ x. x .rec ≡ canon i 0 (x .rec .detected)) (sym e)
+        shape = subst (λ x. x .rec ≡ canon i 0 (x .rec .list)) (sym e)
             (ap₂ (λ (t : Run) (q : Round). standingAt plan i t q 0) (sym (first-position .0)) (sym (first-position .1)));
         good = subst (λ x. Good (x .rec)) (sym e) (fresh-good plan i (sound .accepted) l ne);
         room = subst (λ x. cellCount (plan .n) ≤ length (x .cells)) (sym e)
@@ -168,7 +163,7 @@ module _ (s : Setting) (a : Adversary) (sound : Sound s) where
   -- The board in step j when it has heard all frames.
   module _ (j i : ℕ) (k : keeper s i ≡ true) (st : Standing j i) (more : j < steps plan) where
     abbrev pub r : Record
-    r = canon i j (at s a j i .rec .detected)
+    r = canon i j (at s a j i .rec .list)
 
     abbrev pub cells : List ℕ
     cells = at s a j i .cells
@@ -178,7 +173,7 @@ module _ (s : Setting) (a : Adversary) (sound : Sound s) where
 
     -- The record with its marks, and the cells, as closing begins.
     abbrev pub ready : Board
-    ready = boardWith (withMarks r (marks (r .plan) (r .board) (r .round) (r .detected) (told s a i j) (plan .n))) (heardCells (r .plan) (r .board) (r .round) (r .detected) (told s a i j) cells (plan .n))
+    ready = boardWith (withMarks r (marks (r .plan) (r .board) (r .round) (r .list) (told s a i j) (plan .n))) (heardCells (r .plan) (r .board) (r .round) (r .list) (told s a i j) cells (plan .n))
 
     pub ready-open : Open ready
     ready-open = heard-open r good-r refl (told s a i j) cells (st .room) (plan .n) (omega arith)
@@ -211,8 +206,8 @@ module _ (s : Setting) (a : Adversary) (sound : Sound s) where
     unfolding close
     close-last l = rw (le-ltb (stepRound plan (suc j) .0) (rounds plan .0) l)
 
-    same-record : (detected : ℕ) {t t′ : Run} {q q′ : Round} → t ≡ t′ → q ≡ q′ → standingAt plan i t q detected ≡ standingAt plan i t′ q′ detected
-    same-record detected e f = ap₂ (λ (t : Run) (q : Round). standingAt plan i t q detected) e f
+    same-record : (list : ℕ) {t t′ : Run} {q q′ : Round} → t ≡ t′ → q ≡ q′ → standingAt plan i t q list ≡ standingAt plan i t′ q′ list
+    same-record list e f = ap₂ (λ (t : Run) (q : Round). standingAt plan i t q list) e f
 
     -- Where a step follows the last round of a run, so does a run.
     pub more-runs : suc j < steps plan → stepRound plan (suc j) .0 ≡ rounds plan .0 → stepRun plan (suc j) .0 < runs plan .0
@@ -224,7 +219,7 @@ module _ (s : Setting) (a : Adversary) (sound : Sound s) where
         absurd (omega (arith, number)))
         (λ e. let ne : stepRun plan (suc j) .0 ≢ runs plan .0 = eqb-false (stepRun plan (suc j) .0) (runs plan .0) e in omega (arith, position .run-high))
 
-    pub next-shape : suc j < steps plan → close ready .rec ≡ canon i (suc j) (close ready .rec .detected)
+    pub next-shape : suc j < steps plan → close ready .rec ≡ canon i (suc j) (close ready .rec .list)
     unfolding nextRound convert runEnded
     next-shape l =
         let t = stepRun plan (suc j) in
@@ -232,18 +227,18 @@ module _ (s : Setting) (a : Adversary) (sound : Sound s) where
         cases (ltb (q .0) (rounds plan .0))
         (λ e. let lt = ltb-true (q .0) (rounds plan .0) e in
         let (x, y) = next-position plan t q position lt in
-        rw (close-next lt) (same-record (gather ready .detected) (sym (ap (λ z. stepRun plan (suc z)) (sym number) ∙ x)) (sym (ap (λ z. stepRound plan (suc z)) (sym number) ∙ y))))
+        rw (close-next lt) (same-record (gather ready .list) (sym (ap (λ z. stepRun plan (suc z)) (sym number) ∙ x)) (sym (ap (λ z. stepRound plan (suc z)) (sym number) ∙ y))))
         (λ e. let ge = ltb-false (q .0) (rounds plan .0) e in
         let last : q .0 ≡ rounds plan .0 = omega (arith, position .round-high) in
         let before = more-runs l last in
         let (x, y) = next-run plan t q (sound .accepted) position last before in
         rw (close-last ge, ne-eqb (t .0) (runs plan .0) (omega arith))
-        (same-record (detectLevels plan i t q (gather ready .cells) (rounds plan .0 - 1) (gather ready .detected))
+        (same-record (detectLevels plan i t q (gather ready .cells) (rounds plan .0 - 1) (gather ready .list))
         (sym (ap (λ z. stepRun plan (suc z)) (sym number) ∙ x)) (sym (ap (λ z. stepRound plan (suc z)) (sym number) ∙ y))))
 
     pub standing-next : suc j < steps plan → Standing (suc j) i
     standing-next l = record {
-      shape = subst (λ b. b .rec ≡ canon i (suc j) (b .rec .detected)) (sym after-step) (next-shape l);
+      shape = subst (λ b. b .rec ≡ canon i (suc j) (b .rec .list)) (sym after-step) (next-shape l);
       good = subst (λ b. Good (b .rec)) (sym after-step) (close-good ready (ready-open .good));
       room = subst (λ b. cellCount (plan .n) ≤ length (b .cells)) (sym after-step) (rw (close-length ready ready-open) (ready-open .room));
     }

@@ -13,18 +13,18 @@ use Rattle.holders.specs.Holders.{Asked}
 use Rattle.holders.proofs.Held.{table-length, table-at, held-tolerated}
 use Rattle.plan.specs.declared.plan.Plan.{Plan}
 use Rattle.plan.specs.Listed.{listed}
-use Rattle.tables.specs.Tabled.{Tabled}
+use Rattle.tables.specs.Tabled.{Askable}
 
 -- A set of the plan's boards is one of the 128.
 pub small-set : (p : Plan) (a : ℕ) → p .n ≤ 7 → a < 2 ^ p .n → a < 128
 small-set p a l h = let z : 2 ^ p .n ≤ 2 ^ 7 = pow-mono l in omega arith
 
-module _ {p : Plan} {holders : List ℕ} (t : Tabled p holders) (a : ℕ) (below : a < 2 ^ p .n) where
+module _ {p : Plan} {holders : List ℕ} {a : ℕ} (q : Askable p holders a) where
   pub asked : Asked holders a
-  asked = record { whole = ap length (t .table) ∙ table-length (listed p); small = small-set p a (t .most-boards) below }
+  asked = record { whole = ap length (q .tabled .table) ∙ table-length (listed p); small = small-set p a (q .tabled .most-boards) (q .below) }
 
   pub held-is : not (eqb (getD holders a 255) 255) ≡ tolerated (listed p) a
   held-is =
-      ap (λ h. not (eqb (getD h a 255) 255)) (t .table)
-      ∙ ap (λ x. not (eqb x 255)) (table-at (listed p) a (small-set p a (t .most-boards) below))
-      ∙ held-tolerated (listed p) a (t .few-sets)
+      ap (λ h. not (eqb (getD h a 255) 255)) (q .tabled .table)
+      ∙ ap (λ x. not (eqb x 255)) (table-at (listed p) a (small-set p a (q .tabled .most-boards) (q .below)))
+      ∙ held-tolerated (listed p) a (q .tabled .few-sets)

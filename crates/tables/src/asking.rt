@@ -2,14 +2,13 @@
 use holders::table::holds;
 use plan::plan::Plan;
 ghost use mathlib.Core.Path.{_≡_};
-ghost use Prim.Native.Nat.{_<_, _^_};
 ghost use Rattle.sets.specs.Structure.{tolerated};
 ghost use Rattle.plan.specs.Listed.{listed};
-ghost use Rattle.tables.specs.Tabled.{Tabled};
+ghost use Rattle.tables.specs.Tabled.{Askable};
 
 // Is a set of the plan's boards tolerated?
 pub fn tolerates(plan: Plan, holders: &[u8], s: u8) -> bool
-    requires { ⌜ Tabled plan (now holders) × (s < 2 ^ plan .n) ⌝ }
+    requires { ⌜ Askable plan (now holders) s ⌝ }
     ensures { λ r. ⌜ r ≡ tolerated (listed plan) s ⌝ }
 {
     holds(holders, s)

@@ -20,14 +20,14 @@ pub fn take_later(
     holders: &[u8],
     board: u8,
     round: Round,
-    detected: u8,
+    list: u8,
     marks: u8,
     q: u8,
     frame: &[u8],
     cells: &mut [Value],
 ) -> Verdict
     requires { ⌜ LaterFrom plan (now holders) board q round (now cells) ⌝ }
-    ensures { λ v. ⌜ Takes plan q detected marks (due plan q board round) (sent plan q board round) (decode (now (frame .entry))) (now (cells .entry)) (verdict v) (now (cells .exit)) ⌝ }
+    ensures { λ v. ⌜ Takes plan q list marks (due plan q board round) (sent plan q board round) (decode (now (frame .entry))) (now (cells .entry)) (verdict v) (now (cells .exit)) ⌝ }
 {
     if q == board {
         return Verdict::Refused(Refusal::NotDue);
@@ -41,6 +41,6 @@ pub fn take_later(
     if member(marks, q) {
         return Verdict::Refused(Refusal::AlreadyTaken);
     }
-    store_frame(plan, level, q, detected, &nodes[0..count], frame, cells);
+    store_frame(plan, level, q, list, &nodes[0..count], frame, cells);
     Verdict::Accepted
 }

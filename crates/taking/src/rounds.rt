@@ -7,13 +7,10 @@ use refusals::refusal::Refusal;
 use refusals::refusal::Verdict;
 use schedule::rounds::Round;
 use tables::listed::table_of;
-ghost use Prim.Native.Nat.{_≤_};
-ghost use lib.ListN.{length};
 ghost use Rattle.codec.specs.Codec.{decode};
 ghost use Rattle.refusals.specs.Outcome.{verdict};
-ghost use Rattle.tree.specs.Places.{cellCount};
 ghost use Rattle.protocol.specs.Nodes.{sent, due};
-ghost use Rattle.frames.specs.Nodes.{Stands};
+ghost use Rattle.frames.specs.Nodes.{InRound};
 ghost use Rattle.first_round.specs.Takes.{Takes};
 
 // 14, 15, then the frame is stored.
@@ -21,14 +18,14 @@ pub fn take(
     plan: Plan,
     board: u8,
     round: Round,
-    detected: u8,
+    list: u8,
     marks: u8,
     q: u8,
     frame: &[u8],
     cells: &mut [Value],
 ) -> Verdict
-    requires { ⌜ Stands plan board round × (cellCount (plan .n) ≤ length (now cells)) ⌝ }
-    ensures { λ v. ⌜ Takes plan q detected marks (due plan q board round) (sent plan q board round) (decode (now (frame .entry))) (now (cells .entry)) (verdict v) (now (cells .exit)) ⌝ }
+    requires { ⌜ InRound plan board round (now cells) ⌝ }
+    ensures { λ v. ⌜ Takes plan q list marks (due plan q board round) (sent plan q board round) (decode (now (frame .entry))) (now (cells .entry)) (verdict v) (now (cells .exit)) ⌝ }
 {
     let n = plan.n;
     let k = round.0;
@@ -36,18 +33,8 @@ pub fn take(
         return Verdict::Refused(Refusal::NotDue);
     }
     if k == 1 {
-        return take_word(plan, detected, marks, q, frame, cells);
+        return take_word(plan, list, marks, q, frame, cells);
     }
     let holders = table_of(plan);
-    take_later(
-        plan,
-        &holders,
-        board,
-        round,
-        detected,
-        marks,
-        q,
-        frame,
-        cells,
-    )
+    take_later(plan, &holders, board, round, list, marks, q, frame, cells)
 }

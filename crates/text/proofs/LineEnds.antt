@@ -13,7 +13,7 @@ use borrow.Author.Tests.{lt-ltb, le-ltb}
 use Rattle.sets.specs.Search.{first}
 use Rattle.sets.proofs.Search.{first-le, first-ge, seek-hit, seek-miss, seek-none}
 use Rattle.sets.proofs.Tests.{cases}
-use Rattle.protocol.specs.Sheet.{Line, prepend, lines}
+use Rattle.sheet.specs.Sheet.{Line, prepend, lines}
 
 module _ (text : List ℕ) where
   abbrev newline : ℕ → Bool

@@ -41,6 +41,6 @@ pub agreeing-below : (n s v x : ℕ) (values : List ℕ) → x ≡ agreeing n s 
 unfolding agreeing
 agreeing-below n s v x values e = rw e (setOf-below _ n)
 
-pub dissenting-below : (n s v detected x : ℕ) (values : List ℕ) → x ≡ dissenting n s values v detected → x < 2 ^ n
+pub dissenting-below : (n s v list x : ℕ) (values : List ℕ) → x ≡ dissenting n s values v list → x < 2 ^ n
 unfolding dissenting
-dissenting-below n s v detected x values e = rw e (setOf-below _ n)
+dissenting-below n s v list x values e = rw e (setOf-below _ n)

@@ -24,7 +24,7 @@ use Rattle.tree.proofs.Masks.{mask-member}
 use Rattle.protocol.specs.Detection.{vote, explained}
 use Rattle.protocol.proofs.Tolerance.{setOf-same, tol, tol-q3, tol-path}
 use Rattle.protocol.proofs.Judgement.{plan-facts}
-use Rattle.voting.specs.Worth.{worth, table}
+use Rattle.voting.specs.Worth.{worth, childTable}
 use Rattle.voting.specs.Tables.{at, agreeing, elected, voted, dissenting, explains, explainedBy}
 use Rattle.voting.proofs.Table.{table-at, same-worth}
 
@@ -34,11 +34,11 @@ agrees α f v c = not (occurs c α) && same (f c) (some v)
 
 -- Is it worth something else, or in the list?
 abbrev dissents : Label → (ℕ → Option ℕ) → ℕ → ℕ → ℕ → Bool
-dissents α f detected v c = (not (occurs c α) && not (same (f c) (some v))) || member c detected
+dissents α f list v c = (not (occurs c α) && not (same (f c) (some v))) || member c list
 
 -- The table of α's children.
 abbrev tableOf : Plan → Label → (ℕ → Option ℕ) → List ℕ
-tableOf p α f = table f (mask α) (p .n)
+tableOf p α f = childTable f (mask α) (p .n)
 
 module _ (p : Plan) (α : Label) (f : ℕ → Option ℕ) (b : p .n ≤ 8) where
   -- A child is worth v by the table exactly if it is by f.
@@ -55,17 +55,17 @@ module _ (p : Plan) (α : Label) (f : ℕ → Option ℕ) (b : p .n ≤ 8) where
       (λ e. rw (mask-member c α, e))
       (λ e. rw (mask-member c α, e) (sym (worth-at v c ne l e))))
 
-  dissenting-table : (detected v : ℕ) → v ≢ 255 → setOf (dissents α f detected v) (p .n) ≡ dissenting (p .n) (mask α) (tableOf p α f) v detected
+  dissenting-table : (list v : ℕ) → v ≢ 255 → setOf (dissents α f list v) (p .n) ≡ dissenting (p .n) (mask α) (tableOf p α f) v list
   unfolding dissenting
-  dissenting-table detected v ne =
-      let g : ℕ → Bool = λ c. (not (member c (mask α)) && not (eqb (at (tableOf p α f) c) v)) || member c detected in
-      setOf-same (dissents α f detected v) g (p .n)
+  dissenting-table list v ne =
+      let g : ℕ → Bool = λ c. (not (member c (mask α)) && not (eqb (at (tableOf p α f) c) v)) || member c list in
+      setOf-same (dissents α f list v) g (p .n)
       (λ c l. cases (occurs c α)
       (λ e. rw (mask-member c α, e))
-      (λ e. rw (mask-member c α, e) (ap (λ x. not x || member c detected) (sym (worth-at v c ne l e)))))
+      (λ e. rw (mask-member c α, e) (ap (λ x. not x || member c list) (sym (worth-at v c ne l e)))))
 
   -- Resolving. What the children are worth needs no bound: what is no value below m gets no vote.
-  pub vote-table : p .span ≤ 255 → worth (vote p α f) ≡ voted p (mask α) (table f (mask α) (p .n))
+  pub vote-table : p .span ≤ 255 → worth (vote p α f) ≡ voted p (mask α) (childTable f (mask α) (p .n))
   unfolding vote voted elected
   vote-table m =
       ap worth (only-same (λ v. not (tolerated (listed p) (setOf (agrees α f v) (p .n)))) (elected p (mask α) (tableOf p α f)) (p .span)
@@ -73,34 +73,34 @@ module _ (p : Plan) (α : Label) (f : ℕ → Option ℕ) (b : p .n ≤ 8) where
 
 -- Does v explain what the children of α are worth?
 abbrev fits : Plan → Label → (ℕ → Option ℕ) → ℕ → ℕ → Bool
-fits p α f detected v = tolerated (listed p) (setOf (dissents α f detected v) (p .n))
+fits p α f list v = tolerated (listed p) (setOf (dissents α f list v) (p .n))
 
-module _ (p : Plan) (α : Label) (f : ℕ → Option ℕ) (detected : ℕ) where
+module _ (p : Plan) (α : Label) (f : ℕ → Option ℕ) (list : ℕ) where
   module _ (b : p .n ≤ 8) (m : p .span ≤ 255) where
     -- The same by the table.
-    fits-table : (v : ℕ) → v < p .span → tolerated (listed p) (dissenting (p .n) (mask α) (tableOf p α f) v detected) ≡ fits p α f detected v
-    fits-table v l = ap (tolerated (listed p)) (sym (dissenting-table p α f b detected v (λ z. omega arith)))
+    fits-table : (v : ℕ) → v < p .span → tolerated (listed p) (dissenting (p .n) (mask α) (tableOf p α f) v list) ≡ fits p α f list v
+    fits-table v l = ap (tolerated (listed p)) (sym (dissenting-table p α f b list v (λ z. omega arith)))
 
     -- A value that explains and is that of child c: child c explains.
-    own-explains : (v c : ℕ) → v < p .span → fits p α f detected v ≡ true → c < p .n → agrees α f v c ≡ true
-        → explains p (mask α) (tableOf p α f) detected c ≡ true
+    own-explains : (v c : ℕ) → v < p .span → fits p α f list v ≡ true → c < p .n → agrees α f v c ≡ true
+        → explains p (mask α) (tableOf p α f) list c ≡ true
     unfolding explains
     own-explains v c l t lc a =
         let o : occurs c α ≡ false = not-t (occurs c α) (and-l (not (occurs c α)) (same (f c) (some v)) a) in
         let z : at (tableOf p α f) c ≡ v =
         eqb-true (at (tableOf p α f) c) v (worth-at p α f b v c (λ e. omega arith) lc o ∙ and-r (not (occurs c α)) (same (f c) (some v)) a) in
         and-true (not (member c (mask α))) _ (true-not (member c (mask α)) (mask-member c α ∙ o))
-        (subst (λ x. (ltb x (p .span) && tolerated (listed p) (dissenting (p .n) (mask α) (tableOf p α f) x detected)) ≡ true) (sym z)
+        (subst (λ x. (ltb x (p .span) && tolerated (listed p) (dissenting (p .n) (mask α) (tableOf p α f) x list)) ≡ true) (sym z)
         (and-true (ltb v (p .span)) _ (lt-ltb v (p .span) l) (fits-table v l ∙ t)))
 
     -- And back.
-    explains-own : (c : ℕ) → explains p (mask α) (tableOf p α f) detected c ≡ true
-        → (at (tableOf p α f) c < p .span) × (fits p α f detected (at (tableOf p α f) c) ≡ true)
+    explains-own : (c : ℕ) → explains p (mask α) (tableOf p α f) list c ≡ true
+        → (at (tableOf p α f) c < p .span) × (fits p α f list (at (tableOf p α f) c) ≡ true)
     unfolding explains
     explains-own c t =
         let v = at (tableOf p α f) c in
         let x = ltb v (p .span) in
-        let y = tolerated (listed p) (dissenting (p .n) (mask α) (tableOf p α f) v detected) in
+        let y = tolerated (listed p) (dissenting (p .n) (mask α) (tableOf p α f) v list) in
         let xy = and-r (not (member c (mask α))) (x && y) t in
         let l : v < p .span = ltb-true v (p .span) (and-l x y xy) in
         (l, sym (fits-table v l) ∙ and-r x y xy)
@@ -108,28 +108,28 @@ module _ (p : Plan) (α : Label) (f : ℕ → Option ℕ) (detected : ℕ) where
   -- At an internal node of an accepted plan a value that explains is that of some child: else all children dissent, and with the
   -- node's own boards, a tolerated set, they are all boards, against Q3.
   some-child : judged p .number ≡ 0 → tolerated (listed p) (mask α) ≡ true → ((i : ℕ) → occurs i α ≡ true → i < p .n)
-      → (v : ℕ) → fits p α f detected v ≡ true → any (agrees α f v) (p .n) ≡ true
+      → (v : ℕ) → fits p α f list v ≡ true → any (agrees α f v) (p .n) ≡ true
   unfolding tol
   some-child good inner below v t =
       let path : tolerated (listed p) (setOf (λ i. occurs i α) (p .n)) ≡ true = tol-path p α below ∙ inner in
-      let (i, l, x, y, _) = tol-q3 p good (dissents α f detected v) (λ i. occurs i α) (λ i. occurs i α) t path path in
+      let (i, l, x, y, _) = tol-q3 p good (dissents α f list v) (λ i. occurs i α) (λ i. occurs i α) t path path in
       let o : not (occurs i α) ≡ true = true-not (occurs i α) y in
       any-of (agrees α f v) (p .n) i l
       (and-true (not (occurs i α)) (same (f i) (some v)) o
       (is-true (same (f i) (some v)) (λ e. clash (and-true (not (occurs i α)) (not (same (f i) (some v))) o (true-not (same (f i) (some v)) e))
-      (or-l (not (occurs i α) && not (same (f i) (some v))) (member i detected) x))))
+      (or-l (not (occurs i α) && not (same (f i) (some v))) (member i list) x))))
 
   -- Both rules: it is enough to try the children's own values.
   pub explained-table : judged p .number ≡ 0 → p .span ≤ 255 → tolerated (listed p) (mask α) ≡ true → ((i : ℕ) → occurs i α ≡ true → i < p .n)
-      → explained p α f detected ≡ explainedBy p (mask α) (table f (mask α) (p .n)) detected
+      → explained p α f list ≡ explainedBy p (mask α) (childTable f (mask α) (p .n)) list
   unfolding explained explainedBy
   explained-table good m inner below =
       let b : p .n ≤ 8 = omega (arith, plan-facts p good .admission .most-boards) in
-      let g = explains p (mask α) (tableOf p α f) detected in
-      same-test (any (fits p α f detected) (p .span)) (any g (p .n))
-      (λ e. let (v, l, t) = any-true (fits p α f detected) (p .span) e in
+      let g = explains p (mask α) (tableOf p α f) list in
+      same-test (any (fits p α f list) (p .span)) (any g (p .n))
+      (λ e. let (v, l, t) = any-true (fits p α f list) (p .span) e in
       let (c, lc, a) = any-true (agrees α f v) (p .n) (some-child good inner below v t) in
       any-of g (p .n) c lc (own-explains b m v c l t lc a))
       (λ e. let (c, lc, t) = any-true g (p .n) e in
       let (l, s) = explains-own b m c t in
-      any-of (fits p α f detected) (p .span) (at (tableOf p α f) c) l s)
+      any-of (fits p α f list) (p .span) (at (tableOf p α f) c) l s)

@@ -15,58 +15,58 @@ use Rattle.sets.specs.Sets.{member}
 use Rattle.sets.specs.Only.{same}
 use Rattle.sets.proofs.Tests.{cases}
 use Rattle.tree.specs.Cells.{blank}
-use Rattle.voting.specs.Worth.{worth, table}
+use Rattle.voting.specs.Worth.{worth, childTable}
 use Rattle.voting.specs.Tables.{at}
 
 module _ (f : ℕ → Option ℕ) (s : ℕ) where
   -- No board yet: FF everywhere.
-  pub table-zero : table f s 0 ≡ replicate 8 255
-  unfolding table blank
+  pub table-zero : childTable f s 0 ≡ replicate 8 255
+  unfolding childTable blank
   table-zero = refl
 
-  table-in : (k : ℕ) → member k s ≡ false → table f s (suc k) ≡ set (table f s k) k (worth (f k))
-  unfolding table
+  table-in : (k : ℕ) → member k s ≡ false → childTable f s (suc k) ≡ set (childTable f s k) k (worth (f k))
+  unfolding childTable
   table-in k e = rw e
 
-  table-out : (k : ℕ) → member k s ≡ true → table f s (suc k) ≡ table f s k
-  unfolding table
+  table-out : (k : ℕ) → member k s ≡ true → childTable f s (suc k) ≡ childTable f s k
+  unfolding childTable
   table-out k e = rw e
 
   -- The next board is a child of the node, or one of the node's own.
-  pub table-more : (k : ℕ) → member k s ≡ false → table f s (k + 1) ≡ set (table f s k) k (worth (f k))
-  table-more k e = ap (table f s) (add-one k) ∙ table-in k e
+  pub table-more : (k : ℕ) → member k s ≡ false → childTable f s (k + 1) ≡ set (childTable f s k) k (worth (f k))
+  table-more k e = ap (childTable f s) (add-one k) ∙ table-in k e
 
-  pub table-skip : (k : ℕ) → member k s ≡ true → table f s (k + 1) ≡ table f s k
-  table-skip k e = ap (table f s) (add-one k) ∙ table-out k e
+  pub table-skip : (k : ℕ) → member k s ≡ true → childTable f s (k + 1) ≡ childTable f s k
+  table-skip k e = ap (childTable f s) (add-one k) ∙ table-out k e
 
-  pub table-length : (k : ℕ) → length (table f s k) ≡ 8
+  pub table-length : (k : ℕ) → length (childTable f s k) ≡ 8
   table-length zero = ap length table-zero
   table-length (suc k) =
       cases (member k s)
       (λ e. ap length (table-out k e) ∙ table-length k)
-      (λ e. ap length (table-in k e) ∙ length-set (table f s k) k (worth (f k)) ∙ table-length k)
+      (λ e. ap length (table-in k e) ∙ length-set (childTable f s k) k (worth (f k)) ∙ table-length k)
 
   -- What child c is worth.
-  pub table-at : (n c : ℕ) → n ≤ 8 → c < n → member c s ≡ false → at (table f s n) c ≡ worth (f c)
+  pub table-at : (n c : ℕ) → n ≤ 8 → c < n → member c s ≡ false → at (childTable f s n) c ≡ worth (f c)
   table-at zero c b l e = absurd (omega arith)
   table-at (suc k) c b l e =
       cases (eqb c k)
       (λ q. let z : c ≡ k = eqb-true c k q in
-      rw z (ap (λ t. at t k) (table-in k (rw z at e)) ∙ getD-set-same (table f s k) k (worth (f k)) 0 (omega (arith, table-length k))))
+      rw z (ap (λ t. at t k) (table-in k (rw z at e)) ∙ getD-set-same (childTable f s k) k (worth (f k)) 0 (omega (arith, table-length k))))
       (λ q. let ne : c ≢ k = eqb-false c k q in
       let ih = table-at k c (omega arith) (omega arith) e in
       cases (member k s)
       (λ m. ap (λ t. at t c) (table-out k m) ∙ ih)
-      (λ m. ap (λ t. at t c) (table-in k m) ∙ getD-set-other (table f s k) k c (worth (f k)) 0 ne ∙ ih))
+      (λ m. ap (λ t. at t c) (table-in k m) ∙ getD-set-other (childTable f s k) k c (worth (f k)) 0 ne ∙ ih))
 
 -- The table looks only at children.
-pub table-same : (f g : ℕ → Option ℕ) (s n : ℕ) → ((c : ℕ) → c < n → member c s ≡ false → f c ≡ g c) → table f s n ≡ table g s n
+pub table-same : (f g : ℕ → Option ℕ) (s n : ℕ) → ((c : ℕ) → c < n → member c s ≡ false → f c ≡ g c) → childTable f s n ≡ childTable g s n
 table-same f g s zero h = table-zero f s ∙ sym (table-zero g s)
 table-same f g s (suc k) h =
     let ih = table-same f g s k (λ c l e. h c (omega arith) e) in
     cases (member k s)
     (λ e. table-out f s k e ∙ ih ∙ sym (table-out g s k e))
-    (λ e. table-in f s k e ∙ ap (λ t. set t k (worth (f k))) ih ∙ ap (λ o. set (table g s k) k (worth o)) (h k (omega arith) e)
+    (λ e. table-in f s k e ∙ ap (λ t. set t k (worth (f k))) ih ∙ ap (λ o. set (childTable g s k) k (worth o)) (h k (omega arith) e)
     ∙ sym (table-in g s k e))
 
 -- A child worth v has v in the table, for v other than FF.

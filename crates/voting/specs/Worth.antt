@@ -14,6 +14,6 @@ worth none = blank
 worth (some v) = v
 
 -- What the boards below k are worth as children of a node with the boards s; FF for a board of the node.
-unfoldable pub table : (ℕ → Option ℕ) → ℕ → ℕ → List ℕ
-table f s zero = replicate 8 blank
-table f s (suc k) = let rest = table f s k in let more = set rest k (worth (f k)) in cond (member k s) rest more
+unfoldable pub childTable : (ℕ → Option ℕ) → ℕ → ℕ → List ℕ
+childTable f s zero = replicate 8 blank
+childTable f s (suc k) = let rest = childTable f s k in let more = set rest k (worth (f k)) in cond (member k s) rest more

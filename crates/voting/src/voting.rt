@@ -5,11 +5,11 @@ use sets::boards::member;
 use tables::asking::tolerates;
 ghost use mathlib.Core.Path.{_≡_};
 ghost use mathlib.Core.Bool.{not, _&&_};
-ghost use Prim.Native.Nat.{_≤_, _<_};
+ghost use Prim.Native.Nat.{_≤_};
 ghost use lib.Dec.{ltb};
 ghost use Rattle.sets.specs.Sets.{member};
 ghost use Rattle.tables.specs.Tabled.{Tabled};
-ghost use Rattle.voting.specs.Tables.{at, agreeing, elected, voted};
+ghost use Rattle.voting.specs.Tables.{AtChild, at, agreeing, elected, voted};
 
 // The children worth v.
 fn agreeing_on(n: u8, boards: u8, values: [Value; 8], v: Value) -> u8
@@ -29,7 +29,7 @@ fn agreeing_on(n: u8, boards: u8, values: [Value; 8], v: Value) -> u8
 
 // Is child c worth a value whose holders are not tolerated?
 fn elects(plan: Plan, holders: &[u8], boards: u8, values: [Value; 8], c: u8) -> bool
-    requires { ⌜ Tabled plan (now holders) × (c < plan .n) ⌝ }
+    requires { ⌜ AtChild plan (now holders) c ⌝ }
     ensures { λ r. ⌜ r ≡ (not (member c boards) && (ltb (at values c) (plan .span) && elected plan boards values (at values c))) ⌝ }
 {
     if member(boards, c) {

@@ -27,7 +27,7 @@ use Rattle.protocol.proofs.Judgement.{plan-facts}
 use Rattle.internal.specs.Numbers.{code}
 use Rattle.walk.specs.Walk.{single, walked}
 use Rattle.internal.specs.Tests.{isOpen, barred}
-use Rattle.walk.specs.Listing.{Walkable, Lists, Stands, Written}
+use Rattle.walk.specs.Listing.{Walkable, Lists, Walking, Written}
 use Rattle.walk.proofs.Carried.{carried-all}
 use Rattle.walk.proofs.Numbers.{root-mask, walked-carried}
 
@@ -78,7 +78,7 @@ module _ (p : Plan) (q i level w : ℕ) (holders nodes : List ℕ) (k : Walkable
   list-length : length list ≡ length (carried p q i level)
   list-length = ap length list-is ∙ length-map (carried p q i level) (code (p .n))
 
-  pub root-stands : Stands (p .n) (p .n - level) 0 (root p) (level - 1) holders 0 list nodes
+  pub root-stands : Walking (p .n) (p .n - level) 0 (root p) (level - 1) holders 0 list nodes
   root-stands = record {
     most-boards = k .most-boards;
     width = omega (arith, k .level-low, k .level-most, k .most-boards);

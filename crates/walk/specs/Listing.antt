@@ -28,7 +28,7 @@ pub record Lists (p : Plan) (count : ℕ) (αs : List Label) (before after : Lis
   pub content : after ≡ map (code (p .n)) αs ++ drop count before
 
 -- At a node of the walk: its number and its children's fit, and there is room for the list.
-pub record Stands (n spare index boards left : ℕ) (holders : List ℕ) (used : ℕ) (list nodes : List ℕ) : Type 0 where
+pub record Walking (n spare index boards left : ℕ) (holders : List ℕ) (used : ℕ) (list nodes : List ℕ) : Type 0 where
   pub most-boards : n ≤ 7
   pub width : spare + left ≤ 7
   pub number : index < 8 ^ (7 - left)

@@ -8,7 +8,7 @@ ghost use mathlib.Core.Path.{_≡_};
 ghost use Rattle.protocol.specs.Nodes.{inner, carried};
 ghost use Rattle.walk.specs.Walk.{single, walked};
 ghost use Rattle.internal.specs.Tests.{isOpen};
-ghost use Rattle.walk.specs.Listing.{Stands, Written, Walkable, Lists};
+ghost use Rattle.walk.specs.Listing.{Walking, Written, Walkable, Lists};
 
 // The set of board q alone; empty if a byte has no such board.
 fn set_of(q: u8) -> u8
@@ -34,7 +34,7 @@ fn walk(
     used: usize,
     nodes: &mut [u32],
 ) -> usize
-    requires { ⌜ Stands n spare index boards left (now holders) used (walked (isOpen (now holders) without) n spare left index last boards) (now nodes) ⌝ }
+    requires { ⌜ Walking n spare index boards left (now holders) used (walked (isOpen (now holders) without) n spare left index last boards) (now nodes) ⌝ }
     ensures { λ r. ⌜ Written used r (walked (isOpen (now (holders .entry)) without) n spare left index last boards) (now (nodes .entry)) (now (nodes .exit)) ⌝ }
 {
     if !is_open(holders, without, boards) {

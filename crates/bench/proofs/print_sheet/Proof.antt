@@ -3,7 +3,7 @@
 use native.Mathlib.Omega.{arith}
 use mathlib.Core.Path.{ap, _∙_}
 use borrow.Author.Needs.{needs}
-use Rattle.protocol.specs.Playing.{Play}
+use Rattle.sheet.specs.Playing.{Play}
 use Rattle.printer.specs.Printed.{Output}
 use Rattle.reports.proofs.Reports.{report-fits}
 use Rattle.reports.proofs.Bench.{shown, sheet-prints}

@@ -24,7 +24,10 @@ keep-root-requires c κs =
     let made = c .before .before .before in
     let called = made .before .before in
     let e = called .before .before in
-    (good-record (e .args .r) (e .pre .good) .plan-good, omega (arith, e .pre .enough, made .convert-cells .kept .1 .1 .1 .1 .1 .1 .0))
+    record {
+      accepted = good-record (e .args .r) (e .pre .good) .plan-good;
+      enough = omega (arith, e .pre .enough, made .convert-cells .kept .1 .1 .1 .1 .1 .1 .0);
+    }
 
 returns : tie.Need-returns
 unfolding convert

@@ -10,8 +10,8 @@ use Rattle.advancing.proofs.advancing.next_round.Tie as tie
 add-t6 : tie.Need-add-t6
 add-t6 c =
     let r = c .args .r in
-    let g = good-record r (c .pre .0) in
-    record { fits = omega (arith, c .pre .1, rounds-most (r .plan) (g .plan-good), plan-facts (r .plan) (g .plan-good) .admission .most-boards) }
+    let g = good-record r (c .pre .good) in
+    record { fits = omega (arith, c .pre .before-last, rounds-most (r .plan) (g .plan-good), plan-facts (r .plan) (g .plan-good) .admission .most-boards) }
 
 returns : tie.Need-returns
 returns c = refl

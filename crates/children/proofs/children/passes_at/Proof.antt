@@ -26,7 +26,7 @@ child-cells-requires c κs =
     let set = asked .before .before in
     let s = set .before .before .before in
     let a = s .args in
-    subst (λ b. Beside (a.plan .n) b a.from (a.cells .now)) (sym (c .boards-of .ensures)) (s .pre .1)
+    subst (λ b. Beside (a.plan .n) b a.from (a.cells .now)) (sym (c .boards-of .ensures)) (s .pre .beside)
 
 returns-2 : tie.Need-returns-2
 returns-2 c =

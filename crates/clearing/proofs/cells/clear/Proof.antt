@@ -22,9 +22,9 @@ abbrev μ-loop : tie.MeasureT-loop
 loop-holds : tie.Need-loop-holds Inv-loop μ-loop
 loop-holds c =
     let a = c .before .before .args in
-    let f = plan-facts a.plan (c .before .before .pre .0) .admission in
+    let f = plan-facts a.plan (c .before .before .pre .accepted) .admission in
     let e : c .cell-count .result ≡ cellCount (a.plan .n) = c .cell-count .ensures ∙ count-within (a.plan .n) (f .some-board) (f .most-boards) in
-    (omega arith, omega (arith, e, c .before .before .pre .1), cleared-start (a.cells .now), refl)
+    (omega arith, omega (arith, e, c .before .before .pre .enough), cleared-start (a.cells .now), refl)
 
 slice-write-cells : tie.Need-slice-write-cells Inv-loop μ-loop
 slice-write-cells c = omega (arith, c .before .loop .inv .3)
@@ -49,7 +49,7 @@ unfolding cleared
 returns c =
     let start = c .before .before in
     let a = start .before .before .args in
-    let f = plan-facts a.plan (start .before .before .pre .0) .admission in
+    let f = plan-facts a.plan (start .before .before .pre .accepted) .admission in
     let e : start .cell-count .result ≡ cellCount (a.plan .n) = start .cell-count .ensures ∙ count-within (a.plan .n) (f .some-board) (f .most-boards) in
     let l = c .before .loop in
     l .inv .2 ∙ ap (λ k. cleared k (a.cells .now)) (let z : l.i ≡ cellCount (a.plan .n) = omega (arith, e) in z)

@@ -15,7 +15,7 @@ slice-write-cells c =
     let cleared = c .before .before in
     let e = cleared .before .before .before in
     let p = e .args .plan in
-    omega (arith, some-cell (p .n) (p .dealer) (plan-facts p (e .pre .0) .dealer-below), e .pre .1, cleared .clear .kept .1 .0)
+    omega (arith, some-cell (p .n) (p .dealer) (plan-facts p (e .pre .accepted) .dealer-below), e .pre .enough, cleared .clear .kept .1 .0)
 
 returns : tie.Need-returns
 unfolding cleared
@@ -24,7 +24,7 @@ returns c =
     let e = done .before .before .before in
     let a = e .args in
     ap (λ x. set x 0 a.root) (done .clear .ensures)
-    ∙ cleared-root (a.plan .n) a.root (a.cells .now) (some-cell (a.plan .n) (a.plan .dealer) (plan-facts a.plan (e .pre .0) .dealer-below))
+    ∙ cleared-root (a.plan .n) a.root (a.cells .now) (some-cell (a.plan .n) (a.plan .dealer) (plan-facts a.plan (e .pre .accepted) .dealer-below))
 
 pub keep-root-spec : {M : Type 1} → statement M
 keep-root-spec = tie.close (tie.spec (λ c κs. search needs) slice-write-cells (λ c. search needs) returns)

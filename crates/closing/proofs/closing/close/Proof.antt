@@ -20,7 +20,7 @@ close-round-requires c κs =
     let o : Board = boardWith a.r (a.cells .now) in
     let ok = ap verdict (sym (c .before .enum-told .given .1)) ∙ judged .judge-open .ensures in
     let f = open-facts o (ap (λ (x : Outcome). x .number) (sym ok)) in
-    (record-good a.r (f .good), f .room)
+    record { good = record-good a.r (f .good); enough = f .room }
 
 returns : tie.Need-returns
 unfolding closingSays verdict

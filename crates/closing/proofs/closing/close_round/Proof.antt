@@ -18,7 +18,7 @@ gather-round-requires c κs =
     let held = c .before .before in
     let e = held .before .before in
     let r = e .args .r in
-    (good-stands r (good-record r (e .pre .0)) (held .table-of .result) (held .table-of .ensures), e .pre .1)
+    record { standing = good-stands r (good-record r (e .pre .good)) (held .table-of .result) (held .table-of .ensures); enough = e .pre .enough }
 
 next-round-requires : tie.Need-next-round-requires
 next-round-requires c κs =
@@ -26,7 +26,7 @@ next-round-requires c κs =
     let gone = known .before .before in
     let held = gone .before .before .before in
     let e = held .before .before in
-    (e .pre .0, omega (arith, ap (λ (k : Round). k .0) (c .before .rounds .ensures), c .if1 .taken))
+    record { good = e .pre .good; before-last = omega (arith, ap (λ (k : Round). k .0) (c .before .rounds .ensures), c .if1 .taken) }
 
 returns : tie.Need-returns
 unfolding gather gathered nextRound
@@ -53,7 +53,7 @@ returns-2 c =
     let o : Board = boardWith a.r (a.cells .now) in
     let e = close-last o (omega (arith, ap (λ (k : Round). k .0) (last .before .rounds .ensures), last .if1 .left)) in
     let g = gone .gather-round .ensures in
-    made .convert-round .ensures ∙ ap₂ (λ d x. convert o (record { detected = d; cells = x })) (g .list-is) (g .cells-are) ∙ sym e
+    made .convert-round .ensures ∙ ap₂ (λ d x. convert o (record { list = d; cells = x })) (g .list-is) (g .cells-are) ∙ sym e
 
 pub close-round-spec : {M : Type 1} → statement M
 close-round-spec =

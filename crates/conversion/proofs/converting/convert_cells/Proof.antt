@@ -9,13 +9,13 @@ use Rattle.conversion.proofs.converting.convert_cells.Tie as tie
 resolve-root-requires : tie.Need-resolve-root-requires
 resolve-root-requires c κs =
     let x = c .before in
-    (x .before .before .before .pre, ap (λ r. r .0) (x .rounds .ensures))
+    record { convertible = x .before .before .before .pre; top-is = ap (λ r. r .0) (x .rounds .ensures) }
 
 detect-levels-requires : tie.Need-detect-levels-requires
 detect-levels-requires c κs =
     let y = c .before .before .before in
     let x = y .before .before in
-    (resolved-room (x .before .before .before .pre) (y .resolve-root .ensures), ap (λ r. r .0) (x .rounds .ensures))
+    record { convertible = resolved-room (x .before .before .before .pre) (y .resolve-root .ensures); top-is = ap (λ r. r .0) (x .rounds .ensures) }
 
 returns : tie.Need-returns
 returns c =

@@ -59,7 +59,7 @@ returns c =
     let e = at-shared-slice-known .before in
     let a = e .args in
     at-detect-list .detect-list .ensures
-    ∙ ap (λ αs. detectAllG a.plan a.board a.run a.round αs (record { detected = a.list; cells = a.cells .now }))
+    ∙ ap (λ αs. detectAllG a.plan a.board a.run a.round αs (record { list = a.list; cells = a.cells .now }))
     (inner-front-labels (e .pre .standing) (e .pre .later) (at-inner-nodes .inner-nodes .ensures))
 
 pub detect-cells-spec : {M : Type 1} → statement M

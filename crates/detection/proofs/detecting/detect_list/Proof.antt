@@ -16,14 +16,14 @@ use Rattle.detection.proofs.detecting.detect_list.Statement.{statement}
 use Rattle.detection.proofs.detecting.detect_list.Tie as tie
 
 abbrev Inv-loop : tie.InvT-loop
-Inv-loop plan holders board run round nodes list cells₀ start detected₀ i₀ cells detected i =
+Inv-loop plan holders board run round nodes list cells₀ start grown₀ i₀ cells grown i =
     let αs = labelsOf plan (round .0 - 1) nodes in
     (i ≤ length nodes)
     × (length cells ≡ length cells₀)
-    × (detectAllG plan board run round (drop i αs) (record { detected = detected; cells = cells }) ≡ detectAllG plan board run round αs (record { detected = list; cells = cells₀ }))
+    × (detectAllG plan board run round (drop i αs) (record { list = grown; cells = cells }) ≡ detectAllG plan board run round αs (record { list = list; cells = cells₀ }))
 
 abbrev μ-loop : tie.MeasureT-loop
-μ-loop plan holders board run round nodes list cells₀ start detected₀ i₀ cells detected i = length nodes - i
+μ-loop plan holders board run round nodes list cells₀ start grown₀ i₀ cells grown i = length nodes - i
 
 loop-holds : tie.Need-loop-holds Inv-loop μ-loop
 loop-holds c = (omega arith, refl, refl)
@@ -61,7 +61,7 @@ loop-again c =
     let level = a.round .0 - 1 in
     let α = nodeAt a.plan level (getD (a.nodes .now) l.i 0) in
     let αs = labelsOf a.plan level (a.nodes .now) in
-    let now : Scan = record { detected = l.detected; cells = l.cells } in (
+    let now : Scan = record { list = l.grown; cells = l.cells } in (
       omega arith,
       x .kept .1 .1 .1 .1 .1 .1 .1 .1 .0 ∙ l .inv .1,
       ap (detectAllG a.plan a.board a.run a.round (drop (l.i + 1) αs)) (x .ensures)
@@ -80,7 +80,7 @@ returns c =
     let a = start .args in
     let αs = labelsOf a.plan (a.round .0 - 1) (a.nodes .now) in
     let end : drop l.i αs ≡ [] = drop-of-length-le αs (let z : length αs ≤ l.i = omega (arith, labels-length a.plan (a.round .0 - 1) (a.nodes .now)) in z) in
-    sym (ap (λ βs. detectAllG a.plan a.board a.run a.round βs (record { detected = l.detected; cells = l.cells })) end) ∙ l .inv .2
+    sym (ap (λ βs. detectAllG a.plan a.board a.run a.round βs (record { list = l.grown; cells = l.cells })) end) ∙ l .inv .2
 
 pub detect-list-spec : {M : Type 1} → statement M
 detect-list-spec =

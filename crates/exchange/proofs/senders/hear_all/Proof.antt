@@ -28,7 +28,10 @@ hear-sender-requires c κs =
     let at-loop = c .before .before in
     let s = at-loop .before .before .before in
     let l = at-loop .loop in
-    (record { roomy = record { few = s .pre .roomy .few; room = omega (arith, s .pre .roomy .room, l .inv .2) }; rising = s .pre .rising }, omega arith)
+    record {
+      ready = record { roomy = record { few = s .pre .roomy .few; room = omega (arith, s .pre .roomy .room, l .inv .2) }; rising = s .pre .rising };
+      sender = omega arith;
+    }
 
 loop-again : tie.Need-loop-again Inv-loop μ-loop
 loop-again c =

@@ -35,7 +35,7 @@ add-e c =
     let lent = counted .before .before in
     let start = lent .before .before in
     let size = counted .cell-count in
-    record { fits = omega (arith, part-small (start .args .head) (start .args .cells .now) (start .pre .0 .roomy) (turned .loop .i) (size .result) (size .ensures) (omega arith)) }
+    record { fits = omega (arith, part-small (start .args .head) (start .args .cells .now) (start .pre .ready .roomy) (turned .loop .i) (size .result) (size .ensures) (omega arith)) }
 
 mul-a : tie.Need-mul-a Inv-loop μ-loop
 mul-a c = record { fits = omega (arith, add-e c .fits) }
@@ -48,7 +48,7 @@ part-hear-from-end c =
     let lent = counted .before .before in
     let start = lent .before .before in
     let size = counted .cell-count in
-    omega (arith, part-inside (start .args .head) (start .args .cells .now) (start .pre .0 .roomy) (turned .loop .i) (size .result) (size .ensures) (omega arith), turned .loop .inv .2)
+    omega (arith, part-inside (start .args .head) (start .args .cells .now) (start .pre .ready .roomy) (turned .loop .i) (size .result) (size .ensures) (omega arith), turned .loop .inv .2)
 
 hear-from-requires : tie.Need-hear-from-requires Inv-loop μ-loop
 hear-from-requires c κs =
@@ -57,7 +57,8 @@ hear-from-requires c κs =
     let counted = turned .before in
     let lent = counted .before .before in
     let start = lent .before .before in
-    (start .pre .0 .rising, record { fits = start .pre .1 .fits; whole = turned .loop .inv .3 ∙ start .pre .1 .whole })
+    let framed = start .pre .framed in
+    record { rising = start .pre .ready .rising; framed = record { fits = framed .fits; whole = turned .loop .inv .3 ∙ framed .whole } }
 
 array-set-from-all : tie.Need-array-set-from-all Inv-loop μ-loop
 array-set-from-all c =
@@ -70,7 +71,7 @@ array-set-from-all c =
     let counted = turned .before in
     let lent = counted .before .before in
     let start = lent .before .before in
-    omega (arith, start .pre .0 .roomy .few)
+    omega (arith, start .pre .ready .roomy .few)
 
 mul-all : tie.Need-mul-all Inv-loop μ-loop
 mul-all c = record { fits = omega (arith, array-set-from-all c) }
@@ -85,7 +86,7 @@ loop-again c =
     let a = start .args in
     let l = turned .loop in
     let size = counted .cell-count .result in
-    let is-size = count-is a.head (a.cells .now) (start .pre .0 .roomy) l.i size (counted .cell-count .ensures) (omega arith) in
+    let is-size = count-is a.head (a.cells .now) (start .pre .ready .roomy) l.i size (counted .cell-count .ensures) (omega arith) in
     let fs = framesFrom (a.text .now) a.from in
     let f = hearFrom a.head fs a.q (take a.own (a.frame .now)) in
     let t : Stage = record { recs = a.records; cells = a.cells .now } in

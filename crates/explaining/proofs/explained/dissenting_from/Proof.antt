@@ -16,16 +16,16 @@ use Rattle.explaining.proofs.explained.dissenting_from.Statement.{state
 use Rattle.explaining.proofs.explained.dissenting_from.Tie as tie
 
 abbrev other : ℕ → List ℕ → ℕ → ℕ → ℕ → Bool
-other s values v detected c = (not (member c s) && not (eqb (at values c) v)) || member c detected
+other s values v list c = (not (member c s) && not (eqb (at values c) v)) || member c list
 
 abbrev Inv-loop : tie.InvT-loop
-Inv-loop n boards values v detected s₀ c₀ s c = (c ≤ n) × (s ≡ setOf (other boards values v detected) c)
+Inv-loop n boards values v list s₀ c₀ s c = (c ≤ n) × (s ≡ setOf (other boards values v list) c)
 
 abbrev μ-loop : tie.MeasureT-loop
-μ-loop n boards values v detected s₀ c₀ s c = n - c
+μ-loop n boards values v list s₀ c₀ s c = n - c
 
 loop-holds : tie.Need-loop-holds Inv-loop μ-loop
-loop-holds c = let a = c .args in (omega arith, sym (setOf-zero (other a.boards a.values a.v a.detected)))
+loop-holds c = let a = c .args in (omega arith, sym (setOf-zero (other a.boards a.values a.v a.list)))
 
 loop-again : tie.Need-loop-again Inv-loop μ-loop
 loop-again c =
@@ -33,9 +33,9 @@ loop-again c =
     let start = at-loop .before in
     let a = start .args in
     let l = at-loop .loop in
-    let f = other a.boards a.values a.v a.detected in
+    let f = other a.boards a.values a.v a.list in
     let off : Bool = not (member l.c a.boards) && not (eqb (at a.values l.c) a.v) in
-    let on : Bool = member l.c a.detected in
+    let on : Bool = member l.c a.list in
     let d = c .before .dissents .ensures in
     ⊎-elim
     (λ w. (
@@ -51,7 +51,7 @@ unfolding dissenting
 returns c =
     let a = c .before .before .args in
     let l = c .before .loop in
-    l .inv .1 ∙ ap (setOf (other a.boards a.values a.v a.detected)) (let z : l.c ≡ a.n = omega arith in z)
+    l .inv .1 ∙ ap (setOf (other a.boards a.values a.v a.list)) (let z : l.c ≡ a.n = omega arith in z)
 
 pub dissenting-from-spec : {M : Type 1} → statement M
 dissenting-from-spec =

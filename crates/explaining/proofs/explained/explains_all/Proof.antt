@@ -27,7 +27,7 @@ tolerates-requires : tie.Need-tolerates-requires
 tolerates-requires c κs =
     let else1 = c .before .before .before in
     let e = else1 .before .before .before in
-    (e .pre .0, dissenting-below (e .args .plan .n) (e .args .boards) _ (e .args .detected) _ (e .args .t4) (c .dissenting-from .ensures))
+    record { tabled = e .pre .tabled; below = dissenting-below (e .args .plan .n) (e .args .boards) _ (e .args .list) _ (e .args .t4) (c .dissenting-from .ensures) }
 
 returns-3 : tie.Need-returns-3
 unfolding explains

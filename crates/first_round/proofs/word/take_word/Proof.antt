@@ -18,7 +18,7 @@ unfolding verdict refusal
 returns c =
     let asked = c .before in
     let a = asked .before .before .before .args in
-    takes-none a.plan a.q a.detected a.marks (eqb a.q (a.plan .dealer)) ([] ∷ []) (decode (a.frame .now)) (a.cells .now) (ne-eqb _ _ (c .if1 .taken))
+    takes-none a.plan a.q a.list a.marks (eqb a.q (a.plan .dealer)) ([] ∷ []) (decode (a.frame .now)) (a.cells .now) (ne-eqb _ _ (c .if1 .taken))
 
 returns-2 : tie.Need-returns-2
 unfolding verdict refusal
@@ -26,7 +26,7 @@ returns-2 c =
     let own = c .before in
     let asked = own .before in
     let a = asked .before .before .before .args in
-    takes-again a.plan a.q a.detected a.marks (eqb a.q (a.plan .dealer)) ([] ∷ []) (decode (a.frame .now)) (a.cells .now)
+    takes-again a.plan a.q a.list a.marks (eqb a.q (a.plan .dealer)) ([] ∷ []) (decode (a.frame .now)) (a.cells .now)
     (eq-eqb _ _ (own .if1 .left)) (sym (asked .member .ensures) ∙ c .if2 .taken)
 
 slice-write-cells : tie.Need-slice-write-cells
@@ -34,7 +34,7 @@ slice-write-cells c =
     let own = c .before .before in
     let asked = own .before in
     let e = asked .before .before .before in
-    omega (arith, some-cell (e .args .plan .n) (e .args .plan .dealer) (e .pre .0), e .pre .1)
+    omega (arith, some-cell (e .args .plan .n) (e .args .plan .dealer) (e .pre .dealer-below), e .pre .enough)
 
 returns-3 : tie.Need-returns-3
 unfolding verdict
@@ -43,7 +43,7 @@ returns-3 c =
     let own = new .before in
     let asked = own .before in
     let a = asked .before .before .before .args in
-    takes-root a.plan a.detected a.q (decode (a.frame .now)) a.marks (eqb a.q (a.plan .dealer)) (a.cells .now) _
+    takes-root a.plan a.list a.q (decode (a.frame .now)) a.marks (eqb a.q (a.plan .dealer)) (a.cells .now) _
     (eq-eqb _ _ (own .if1 .left)) (sym (asked .member .ensures) ∙ new .if2 .left) (c .word-of .ensures)
 
 pub take-word-spec : {M : Type 1} → statement M

@@ -21,8 +21,8 @@ returns c =
     let known = filled .before .before in
     let a = known .before .before .args in
     let e = copied .copy-own .ensures ∙ ap (copyOwn a.plan a.board a.round) (filled .fill-missing .ensures) in
-    let d = found .detect-cells .ensures ∙ ap (λ x. detectAllG a.plan a.board a.run a.round (inner a.plan a.board (a.round .0 - 1)) (record { detected = a.list; cells = x })) e in
-    record { list-is = ap (λ (s : Scan). s .detected) d; cells-are = ap (λ (s : Scan). s .cells) d }
+    let d = found .detect-cells .ensures ∙ ap (λ x. detectAllG a.plan a.board a.run a.round (inner a.plan a.board (a.round .0 - 1)) (record { list = a.list; cells = x })) e in
+    record { list-is = ap (λ (s : Scan). s .list) d; cells-are = ap (λ (s : Scan). s .cells) d }
 
 pub gather-later-spec : {M : Type 1} → statement M
 gather-later-spec =

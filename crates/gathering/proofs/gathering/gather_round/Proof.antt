@@ -11,7 +11,7 @@ returns c =
     let first = stored .before .before in
     let e = first .before .before .before in
     let a = e .args in
-    gathers-word (e .pre .0) (first .if1 .taken) a.marks (a.cells .now) a.run a.list _ (stored .gather-word .ensures)
+    gathers-word (e .pre .standing) (first .if1 .taken) a.marks (a.cells .now) a.run a.list _ (stored .gather-word .ensures)
 
 pub gather-round-spec : {M : Type 1} → statement M
 gather-round-spec =

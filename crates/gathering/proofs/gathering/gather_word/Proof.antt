@@ -15,7 +15,7 @@ slice-write-cells : tie.Need-slice-write-cells
 slice-write-cells c =
     let asked = c .before .before in
     let e = asked .before .before in
-    omega (arith, some-cell (e .args .plan .n) (e .args .plan .dealer) (e .pre .0), e .pre .1)
+    omega (arith, some-cell (e .args .plan .n) (e .args .plan .dealer) (e .pre .dealer-below), e .pre .enough)
 
 returns-2 : tie.Need-returns-2
 returns-2 c =

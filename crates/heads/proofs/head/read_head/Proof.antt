@@ -5,7 +5,7 @@ use mathlib.Core.Path.{_≡_, sym, ap, ap₂, _∙_}
 use native.Mathlib.Omega.{arith}
 use borrow.Author.Needs.{needs}
 use Rattle.refusals.specs.Outcome.{refused, refusal, verdict, andThen}
-use Rattle.protocol.specs.Sheet.{judgeHead}
+use Rattle.sheet.specs.Sheet.{judgeHead}
 use Rattle.hex.proofs.Bytes.{all}
 use Rattle.plan.specs.Calls.{Plans}
 use Rattle.heads.proofs.Heads.{head-wrong, head-judged, head-made}

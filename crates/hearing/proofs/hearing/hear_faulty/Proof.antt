@@ -5,7 +5,7 @@ use native.Mathlib.Omega.{arith}
 use borrow.Author.Needs.{needs}
 use Rattle.protocol.specs.Rounds.{boardWith, Board}
 use Rattle.protocol.specs.Calls.{Result}
-use Rattle.protocol.specs.Playing.{findFrame}
+use Rattle.sheet.specs.Playing.{findFrame}
 use Rattle.finding.specs.Frames.{framesFrom}
 use Rattle.hearing.proofs.FromSheet.{read-missing, read-fits, read-heard}
 use Rattle.hearing.proofs.hearing.hear_faulty.Statement.{statement}
@@ -22,8 +22,8 @@ part-receive-end c =
     let a = start .args in
     let v = findFrame (a.r .run) (a.r .round) a.q (a.r .board) (framesFrom (a.text .now) a.from) in
     let d = read .read-frame in
-    let fits = read-fits v (a.frame .now) (start .pre .1) (d .result) _ (d .ensures) (found .k .given .0 .0) (found .k .given .1) in
-    omega (arith, fits, d .kept .1 .1 .1 .1 .1 .1 .0, start .pre .1)
+    let fits = read-fits v (a.frame .now) (start .pre .whole) (d .result) _ (d .ensures) (found .k .given .0 .0) (found .k .given .1) in
+    omega (arith, fits, d .kept .1 .1 .1 .1 .1 .1 .0, start .pre .whole)
 
 returns : tie.Need-returns
 returns c =
@@ -35,7 +35,7 @@ returns c =
     let a = start .args in
     let v = findFrame (a.r .run) (a.r .round) a.q (a.r .board) (framesFrom (a.text .now) a.from) in
     let d = read .read-frame in
-    read-missing v (a.frame .now) (start .pre .1) (d .result) _ (d .ensures) a.q (boardWith a.r (a.cells .now)) (c .enum-told .given .1)
+    read-missing v (a.frame .now) (start .pre .whole) (d .result) _ (d .ensures) a.q (boardWith a.r (a.cells .now)) (c .enum-told .given .1)
 
 returns-2 : tie.Need-returns-2
 returns-2 c =
@@ -52,7 +52,7 @@ returns-2 c =
     let d = read .read-frame in
     let b : Board = boardWith a.r (a.cells .now) in
     ap (λ (x : Result). x .board) (heard .receive .ensures)
-    ∙ read-heard v (a.frame .now) (start .pre .1) (d .result) _ (d .ensures) (found .k .given .0 .0) a.q b (found .k .given .1)
+    ∙ read-heard v (a.frame .now) (start .pre .whole) (d .result) _ (d .ensures) (found .k .given .0 .0) a.q b (found .k .given .1)
 
 pub hear-faulty-spec : {M : Type 1} → statement M
 hear-faulty-spec =

@@ -11,7 +11,7 @@ use Rattle.internal.proofs.internal.is_internal.Statement.{statement}
 use Rattle.internal.proofs.internal.is_internal.Tie as tie
 
 is-open-requires : tie.Need-is-open-requires
-is-open-requires c κs = let e = c .before .before in asked (e .pre .0) (e .args .boards) (e .pre .1)
+is-open-requires c κs = asked (c .before .before .pre)
 
 returns : tie.Need-returns
 unfolding isOpen isInternal
@@ -19,7 +19,7 @@ returns c =
     let bar = c .before in
     let e = bar .before .before in
     let a = e .args in
-    c .is-open .ensures ∙ ap₂ (λ w b. eqb (bitAnd a.boards w) 0 && b) (bar .barred-to .ensures) (held-is (e .pre .0) a.boards (e .pre .1))
+    c .is-open .ensures ∙ ap₂ (λ w b. eqb (bitAnd a.boards w) 0 && b) (bar .barred-to .ensures) (held-is (e .pre))
 
 pub is-internal-spec : {M : Type 1} → statement M
 is-internal-spec = tie.close (tie.spec (λ c κs. search needs) is-open-requires returns)

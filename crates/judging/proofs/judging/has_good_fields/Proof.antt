@@ -11,7 +11,7 @@ use Rattle.judging.proofs.judging.has_good_fields.Tie as tie
 
 -- The list and the marks name boards below n, or not.
 listing : (c : tie.After-within)
-    → let r = c .before .before .before .args .r in c .within .result ≡ within (r .detected) (boards (r .plan .n))
+    → let r = c .before .before .before .args .r in c .within .result ≡ within (r .list) (boards (r .plan .n))
 listing c =
     let set = c .before in
     let e = set .before .before in

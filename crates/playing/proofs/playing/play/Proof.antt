@@ -4,8 +4,8 @@ use mathlib.Core.Path.{sym, ap, _∙_}
 use Rattle.refusals.specs.Outcome.{refusal, verdict}
 use Rattle.refusals.proofs.Outcomes.{refusal-number}
 use Rattle.protocol.specs.Answers.{playedSays}
-use Rattle.protocol.specs.Sheet.{wrongAt}
-use Rattle.protocol.specs.Playing.{refusedPlay}
+use Rattle.sheet.specs.Sheet.{wrongAt}
+use Rattle.sheet.specs.Playing.{refusedPlay}
 use Rattle.playing.proofs.Whole.{too-long, short-output, short-cells, judged-refused, judged-accepted, sheet-refused, sheet-accepted}
 use borrow.Author.Needs.{needs}
 use Rattle.playing.proofs.playing.play.Statement.{statement}

@@ -7,7 +7,7 @@ use lib.ListN.{replicate}
 use Rattle.schedule.specs.Schedule.{steps}
 use Rattle.refusals.specs.Outcome.{taken}
 use Rattle.protocol.specs.Calls.{voidRecord}
-use Rattle.protocol.specs.Sheet.{reading}
+use Rattle.sheet.specs.Sheet.{reading}
 use Rattle.finding.specs.Frames.{framesFrom}
 use Rattle.reader.proofs.Accepted.{sheet-frames}
 use Rattle.printer.specs.Printed.{Output, boardLines}

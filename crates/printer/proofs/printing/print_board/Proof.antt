@@ -5,7 +5,7 @@ use mathlib.Core.List.{[]}
 use lib.Seq.{sets}
 use borrow.Author.Needs.{needs}
 use borrow.Author.Tests.{eq-eqb, ne-eqb}
-use Rattle.protocol.specs.Playing.{printed}
+use Rattle.sheet.specs.Playing.{printed}
 use Rattle.printer.specs.Printed.{healthyLine}
 use Rattle.printer.proofs.printing.print_board.Statement.{statement}
 use Rattle.printer.proofs.printing.print_board.Tie as tie

@@ -10,10 +10,10 @@ use lib.Seq.{sets, length-sets}
 use borrow.Author.Needs.{needs}
 use Rattle.sets.specs.Sets.{member}
 use Rattle.sets.proofs.Tests.{not-t, not-f}
-use Rattle.protocol.specs.Playing.{printBoards}
+use Rattle.sheet.specs.Playing.{printBoards}
 use Rattle.printer.specs.Printed.{boardsOf, boardLines, atFront}
 use Rattle.printer.proofs.Stores.{stores-first}
-use Rattle.printer.proofs.BoardLines.{decision-at, detected-at, line-healthy, one-more, none-more, lines-none, print-short, many-boards, short-output, all-lines}
+use Rattle.printer.proofs.BoardLines.{decision-at, list-at, line-healthy, one-more, none-more, lines-none, print-short, many-boards, short-output, all-lines}
 use Rattle.printer.proofs.printing.print_boards.Statement.{statement}
 use Rattle.printer.proofs.printing.print_boards.Tie as tie
 
@@ -75,7 +75,7 @@ loop-again c =
     let b = boardsOf a.t2 in
     ⊎-elim
     (λ w. let f : member l.i (a.head .faulty) ≡ false = sym (at-member .member .ensures) ∙ not-t (at-member .member .result) (w .0 .taken) in
-    let line = line-healthy a.head b l.i _ (decision-at a.t2 l.i _ refl) (detected-at a.t2 l.i _ refl) f in
+    let line = line-healthy a.head b l.i _ (decision-at a.t2 l.i _ refl) (list-at a.t2 l.i _ refl) f in
     let (u, o) = one-more a.head b l.i l.used (a.out .now) l.out _ _ (l .inv .1) (l .inv .2) f line (w .2 .ensures) in
     (omega arith, w .6 ∙ u, w .5 ∙ o))
     (λ w. let f : member l.i (a.head .faulty) ≡ true = sym (at-member .member .ensures) ∙ not-f (at-member .member .result) (w .0 .left) in

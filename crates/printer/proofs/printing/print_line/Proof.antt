@@ -7,7 +7,7 @@ use lib.ListN.{set, length-set}
 use lib.Seq.{sets}
 use borrow.Author.Needs.{needs}
 use Rattle.hex.specs.Hex.{hexByte}
-use Rattle.protocol.specs.Playing.{hexValue}
+use Rattle.sheet.specs.Playing.{hexValue}
 use Rattle.printer.proofs.Stores.{line-stores}
 use Rattle.printer.proofs.printing.print_line.Statement.{statement}
 use Rattle.printer.proofs.printing.print_line.Tie as tie
@@ -37,8 +37,8 @@ returns c =
     let third = at-print-byte2 .print-byte2 .ensures in
     let second = at-print-value .print-value .ensures in
     let first = at-print-byte .print-byte .ensures in
-    ap (λ o. set o (a.at + 6) 10) (third ∙ ap (λ o. sets o (a.at + 4) (hexByte a.detected [])) (second ∙ ap (λ o. sets o (a.at + 2) (hexValue a.decision [])) first))
-    ∙ line-stores (a.out .now) a.at a.board a.decision a.detected
+    ap (λ o. set o (a.at + 6) 10) (third ∙ ap (λ o. sets o (a.at + 4) (hexByte a.list [])) (second ∙ ap (λ o. sets o (a.at + 2) (hexValue a.decision [])) first))
+    ∙ line-stores (a.out .now) a.at a.board a.decision a.list
 
 pub print-line-spec : {M : Type 1} → statement M
 print-line-spec =

@@ -3,7 +3,7 @@
 use borrow.Author.Needs.{needs}
 use Rattle.codec.specs.Codec.{encode}
 use Rattle.hex.specs.Hex.{hexBytes}
-use Rattle.protocol.specs.Playing.{hexValue}
+use Rattle.sheet.specs.Playing.{hexValue}
 use Rattle.printer.proofs.printing.print_value.Statement.{statement}
 use Rattle.printer.proofs.printing.print_value.Tie as tie
 

@@ -21,12 +21,12 @@ unfolding verdict refusal
 returns-2 c =
     let some-text = c .before in
     let start = some-text .before .before in
-    sym (top-open (start .args .text .now) (start .args .end) (some-text .if1 .left) (start .pre .0) (omega (arith, c .if2 .taken)))
+    sym (top-open (start .args .text .now) (start .args .end) (some-text .if1 .left) (start .pre .ends) (omega (arith, c .if2 .taken)))
 
 part-is-text-end : tie.Need-part-is-text-end
 part-is-text-end c =
     let start = c .before .before .before in
-    omega (arith, start .pre .0, stop-le (start .args .text .now) 0 (omega arith))
+    omega (arith, start .pre .ends, stop-le (start .args .text .now) 0 (omega arith))
 
 returns-3 : tie.Need-returns-3
 unfolding verdict refusal
@@ -35,8 +35,8 @@ returns-3 c =
     let some-text = ended .before in
     let start = some-text .before .before in
     let text = start .args .text .now in
-    let within : start .args .end < length text = omega (arith, stop-le text 0 (omega arith), start .pre .0, ended .if2 .left) in
-    sym (top-other text (start .args .end) (some-text .if1 .left) (start .pre .0) within (sym (c .before .is-text .ensures) ∙ not-t _ (c .if3 .taken)))
+    let within : start .args .end < length text = omega (arith, stop-le text 0 (omega arith), start .pre .ends, ended .if2 .left) in
+    sym (top-other text (start .args .end) (some-text .if1 .left) (start .pre .ends) within (sym (c .before .is-text .ensures) ∙ not-t _ (c .if3 .taken)))
 
 returns-4 : tie.Need-returns-4
 returns-4 c =
@@ -44,8 +44,8 @@ returns-4 c =
     let some-text = ended .before in
     let start = some-text .before .before in
     let text = start .args .text .now in
-    let within : start .args .end < length text = omega (arith, stop-le text 0 (omega arith), start .pre .0, ended .if2 .left) in
-    start .pre .1 ∙ sym (top-good text (start .args .end) (some-text .if1 .left) (start .pre .0) within (sym (c .before .is-text .ensures) ∙ not-f _ (c .if3 .left)))
+    let within : start .args .end < length text = omega (arith, stop-le text 0 (omega arith), start .pre .ends, ended .if2 .left) in
+    start .pre .judges ∙ sym (top-good text (start .args .end) (some-text .if1 .left) (start .pre .ends) within (sym (c .before .is-text .ensures) ∙ not-f _ (c .if3 .left)))
 
 pub judge-first-spec : {M : Type 1} → statement M
 judge-first-spec =

@@ -8,9 +8,9 @@ use borrow.Author.Needs.{needs}
 use Rattle.refusals.specs.Outcome.{verdict}
 use Rattle.plan.specs.Calls.{judged}
 use Rattle.hex.proofs.Bytes.{all}
-use Rattle.protocol.specs.Sheet.{lines}
-use Rattle.protocol.proofs.Sheets.{head-good}
-use Rattle.reader.specs.Reading.{judgeLines}
+use Rattle.sheet.specs.Sheet.{lines}
+use Rattle.sheet.proofs.Sheets.{head-good}
+use Rattle.judging_frames.specs.Lines.{judgeLines}
 use Rattle.reader.proofs.WholeSheet.{sheet-begun, sheet-said, sheet-far, sheet-answer}
 use Rattle.reader.proofs.reading.judge_sheet.Statement.{statement}
 use Rattle.reader.proofs.reading.judge_sheet.Tie as tie
@@ -22,7 +22,7 @@ add-judge-frames c =
     let judging = told .before .before in
     let start = judging .before .before in
     let first = ap verdict (sym (told .enum-told .given .1)) ∙ judging .judge-first .ensures in
-    let b = sheet-begun (start .args .text .now) (start .args .end) (start .pre .0) (ap (λ o. o .number) (sym first)) in
+    let b = sheet-begun (start .args .text .now) (start .args .end) (start .pre .ends) (ap (λ o. o .number) (sym first)) in
     omega (arith, b .ended)
 
 judge-frames-requires : tie.Need-judge-frames-requires
@@ -34,9 +34,12 @@ judge-frames-requires c κs =
     let text = start .args .text .now in
     let end = start .args .end in
     let first = ap verdict (sym (told .enum-told .given .1)) ∙ judging .judge-first .ensures in
-    let b = sheet-begun text end (start .pre .0) (ap (λ o. o .number) (sym first)) in
+    let b = sheet-begun text end (start .pre .ends) (ap (λ o. o .number) (sym first)) in
     let top = all (take (end - 0) text) in
-    (ap (λ h. judged (h .plan) .number) (start .pre .1 .gives (b .accepted)) ∙ head-good top (b .accepted) .accepted, omega (arith, sheet-far text end (start .pre .0) b))
+    record {
+      accepted = ap (λ h. judged (h .plan) .number) (start .pre .read .gives (b .accepted)) ∙ head-good top (b .accepted) .accepted;
+      after-first = omega (arith, sheet-far text end (start .pre .ends) b);
+    }
 
 returns : tie.Need-returns
 unfolding verdict
@@ -44,7 +47,7 @@ returns c =
     let judging = c .before .before .before in
     let start = judging .before .before in
     let why = c .before .why .given .0 .0 in
-    sheet-said (start .args .text .now) (start .args .end) (start .pre .0) why (ap verdict (sym (c .before .why .given .1)) ∙ judging .judge-first .ensures)
+    sheet-said (start .args .text .now) (start .args .end) (start .pre .ends) why (ap verdict (sym (c .before .why .given .1)) ∙ judging .judge-first .ensures)
 
 returns-2 : tie.Need-returns-2
 unfolding verdict
@@ -55,9 +58,9 @@ returns-2 c =
     let text = start .args .text .now in
     let end = start .args .end in
     let first = ap verdict (sym (told .enum-told .given .1)) ∙ judging .judge-first .ensures in
-    let b = sheet-begun text end (start .pre .0) (ap (λ o. o .number) (sym first)) in
+    let b = sheet-begun text end (start .pre .ends) (ap (λ o. o .number) (sym first)) in
     let r = c .judge-frames .ensures in
-    let x = ap (λ h. judgeLines (h .plan) (h .faulty) 0 2 (lines (drop (end + 1) text))) (start .pre .1 .gives (b .accepted)) ∙ sym (sheet-answer text end (start .pre .0) b) in
+    let x = ap (λ h. judgeLines (h .plan) (h .faulty) 0 2 (lines (drop (end + 1) text))) (start .pre .read .gives (b .accepted)) ∙ sym (sheet-answer text end (start .pre .ends) b) in
     record { says = r .says ∙ x; line = r .line ∙ ap (λ o. getD (o .values) 0 0) x; few = r .few }
 
 pub judge-sheet-spec : {M : Type 1} → statement M

@@ -11,7 +11,7 @@ returns : tie.Need-returns
 unfolding receive
 returns c =
     let r = c .args .r in
-    ap (λ k. record { plan = r .plan; board = r .board; run = r .run; round = r .round; detected = r .detected; marks = k; decided = r .decided; decision = r .decision })
+    ap (λ k. record { plan = r .plan; board = r .board; run = r .run; round = r .round; list = r .list; marks = k; decided = r .decided; decision = r .decision })
     (insert-byte (r .marks) (c .args .sender) (c .pre))
 
 pub marked-spec : {M : Type 1} → statement M

@@ -18,11 +18,11 @@ use Rattle.resolving.proofs.Steps.{tabled, Filling, level-most, boards-
 use Rattle.resolving.proofs.resolving.+resolve_node.Lts-resolve_node as lts
 use Rattle.resolving.proofs.resolving.+resolve_node.Tie.{close}
 use Rattle.resolving.proofs.resolving.+resolve_node.{statement}
-use Rattle.resolving.proofs.resolving.is_leaf.Reads as is-leaf-reads
 use Rattle.resolving.proofs.resolving.resolve_node.Kinds as kinds
 use Rattle.resolving.proofs.resolving.resolve_node.Reads as self
-use Rattle.resolving.proofs.resolving.settle_leaf.Reads as settle-leaf-reads
 use Rattle.sets.proofs.boards.member.Reads as member-reads
+use Rattle.leaves.proofs.leaf.is_leaf.Reads as is-leaf-reads
+use Rattle.leaves.proofs.leaf.settle_leaf.Reads as settle-leaf-reads
 use Rattle.levels.proofs.levels.level_size.Reads as level-size-reads
 use Rattle.voting.proofs.voting.vote.Reads as vote-reads
 
@@ -82,7 +82,7 @@ is-internal : (t : ℕ) (c : lts.Else1 (callees t) (at-t t) self.Post Inv-loop �
     internal a.plan a.board (node a.plan a.level a.index) ≡ true
 is-internal t c =
     let s = from-test (c .before) in
-    sym (inner-is (s .pre .1 .0) (s .pre .1 .1)) ∙ not-f _ (sym (c .before .is-leaf .ensures) ∙ c .if1 .left)
+    sym (inner-is (s .pre .1 .convertible) (s .pre .1 .at-node)) ∙ not-f _ (sym (c .before .is-leaf .ensures) ∙ c .if1 .left)
 
 some-left : (t : ℕ) (c : lts.Else1 (callees t) (at-t t) self.Post Inv-loop μ-loop) → from-test (c .before) .args .left ≢ 0
 some-left t c e =
@@ -90,13 +90,13 @@ some-left t c e =
     omega (arith, ltb-true 0 a.left (and-l (ltb 0 a.left) _ (not-f _ (sym (c .before .is-leaf .ensures) ∙ c .if1 .left))))
 
 add-at : (t : ℕ) → lts.Need-add-at (callees t) (at-t t) self.Post Inv-loop μ-loop
-add-at t c = let s = c .before .before in place-fits (s .pre .1 .0) (s .pre .1 .1)
+add-at t c = let s = c .before .before in place-fits (s .pre .1 .convertible) (s .pre .1 .at-node)
 
 is-leaf-requires : (t : ℕ) → lts.Need-is-leaf-requires (callees t) (at-t t) self.Post Inv-loop μ-loop
-is-leaf-requires t c κs = let s = c .before .before in (tabled (s .pre .1 .0), boards-below (s .pre .1 .0) (s .pre .1 .1))
+is-leaf-requires t c κs = let s = c .before .before in record { tabled = tabled (s .pre .1 .convertible); below = boards-below (s .pre .1 .convertible) (s .pre .1 .at-node) }
 
 settle-leaf-requires : (t : ℕ) → lts.Need-settle-leaf-requires (callees t) (at-t t) self.Post Inv-loop μ-loop
-settle-leaf-requires t c κs = let s = from-test (c .before .before) in place-there (s .pre .1 .0) (s .pre .1 .1)
+settle-leaf-requires t c κs = let s = from-test (c .before .before) in place-there (s .pre .1 .convertible) (s .pre .1 .at-node)
 
 same-length : (t : ℕ) → lts.Need-same-length (callees t) (at-t t) self.Post Inv-loop μ-loop
 same-length t c =
@@ -109,35 +109,35 @@ returns t c =
     let x = c .before .before in
     let y = x .before .before in
     let s = from-test (y .before) in
-    leaf-settles (s .pre .1 .0) (s .pre .1 .1)
-    (sym (inner-is (s .pre .1 .0) (s .pre .1 .1)) ∙ not-t _ (sym (y .before .is-leaf .ensures) ∙ y .if1 .taken))
+    leaf-settles (s .pre .1 .convertible) (s .pre .1 .at-node)
+    (sym (inner-is (s .pre .1 .convertible) (s .pre .1 .at-node)) ∙ not-t _ (sym (y .before .is-leaf .ensures) ∙ y .if1 .taken))
     (x .settle-leaf .ensures)
 
 add-next : (t : ℕ) → lts.Need-add-next (callees t) (at-t t) self.Post Inv-loop μ-loop
 add-next t c =
     let s = from-inner c in
-    next-fits (s .pre .1 .0) (s .pre .1 .1) (c .level-size .result) (c .level-size .ensures)
+    next-fits (s .pre .1 .convertible) (s .pre .1 .at-node) (c .level-size .result) (c .level-size .ensures)
 
 sub-child : (t : ℕ) → lts.Need-sub-child (callees t) (at-t t) self.Post Inv-loop μ-loop
-sub-child t c = let s = from-inner c in level-most (s .pre .1 .0) (s .pre .1 .1)
+sub-child t c = let s = from-inner c in level-most (s .pre .1 .convertible) (s .pre .1 .at-node)
 
 cast-child : (t : ℕ) → lts.Need-cast-child (callees t) (at-t t) self.Post Inv-loop μ-loop
-cast-child t c = let s = from-inner c in width-fits (s .pre .1 .0) (s .pre .1 .1)
+cast-child t c = let s = from-inner c in width-fits (s .pre .1 .convertible) (s .pre .1 .at-node)
 
 mul-child : (t : ℕ) → lts.Need-mul-child (callees t) (at-t t) self.Post Inv-loop μ-loop
-mul-child t c = let s = from-inner c in first-fits (s .pre .1 .0) (s .pre .1 .1)
+mul-child t c = let s = from-inner c in first-fits (s .pre .1 .convertible) (s .pre .1 .at-node)
 
 loop-holds : (t : ℕ) → lts.Need-loop-holds (callees t) (at-t t) self.Post Inv-loop μ-loop
-loop-holds t c = let s = from-inner c in filling-start (s .pre .1 .0) (s .pre .1 .1)
+loop-holds t c = let s = from-inner c in filling-start (s .pre .1 .convertible) (s .pre .1 .at-node)
 
 add-resolve-node : (t : ℕ) → lts.Need-add-resolve-node (callees t) (at-t t) self.Post Inv-loop μ-loop
-add-resolve-node t c = let s = from-loop (c .before .before) in level-fits (s .pre .1 .0) (s .pre .1 .1)
+add-resolve-node t c = let s = from-loop (c .before .before) in level-fits (s .pre .1 .convertible) (s .pre .1 .at-node)
 
 shl-resolve-node : (t : ℕ) → lts.Need-shl-resolve-node (callees t) (at-t t) self.Post Inv-loop μ-loop
 shl-resolve-node t c =
     let x = c .before .before in
     let s = from-loop x in
-    board-few (s .pre .1 .0) (s .pre .1 .1) (x .before .loop .c) (x .loop-test .taken)
+    board-few (s .pre .1 .convertible) (s .pre .1 .at-node) (x .before .loop .c) (x .loop-test .taken)
 
 sub-resolve-node : (t : ℕ) → lts.Need-sub-resolve-node (callees t) (at-t t) self.Post Inv-loop μ-loop
 sub-resolve-node t c = omega (arith, some-left t (inner-of (c .before .before)))
@@ -150,24 +150,24 @@ resolve-node-requires t c κs =
     let z = x .before .before in
     let ne = some-left t (z .before) in
     let out = sym (c .before .before .member .ensures) ∙ not-t _ (c .before .if2 .taken) in (
-      left-falls (s .pre .1 .0) (s .pre .1 .1) (s .pre .0) ne,
-      (
-        filling-room (s .pre .1 .0) (s .pre .1 .1) (l .inv),
-        child-stands (s .pre .1 .0) (s .pre .1 .1) (l .inv) (x .loop-test .taken) out ne (z .level-size .ensures) refl,
-      ),
+      left-falls (s .pre .1 .convertible) (s .pre .1 .at-node) (s .pre .0) ne,
+      record {
+        convertible = filling-room (s .pre .1 .convertible) (s .pre .1 .at-node) (l .inv);
+        at-node = child-stands (s .pre .1 .convertible) (s .pre .1 .at-node) (l .inv) (x .loop-test .taken) out ne (z .level-size .ensures) refl;
+      },
     )
 
 array-write-values : (t : ℕ) → lts.Need-array-write-values (callees t) (at-t t) self.Post Inv-loop μ-loop
 array-write-values t c =
     let x = turn-of c in
     let s = from-loop x in
-    board-few (s .pre .1 .0) (s .pre .1 .1) (x .before .loop .c) (x .loop-test .taken)
+    board-few (s .pre .1 .convertible) (s .pre .1 .at-node) (x .before .loop .c) (x .loop-test .taken)
 
 add-child : (t : ℕ) → lts.Need-add-child (callees t) (at-t t) self.Post Inv-loop μ-loop
 add-child t c =
     let x = turn-of c in
     let s = from-loop x in
-    record { fits = omega (arith, number-small (s .pre .1 .0) (s .pre .1 .1) (x .before .loop .inv)) }
+    record { fits = omega (arith, number-small (s .pre .1 .convertible) (s .pre .1 .at-node) (x .before .loop .inv)) }
 
 loop-again : (t : ℕ) → lts.Need-loop-again (callees t) (at-t t) self.Post Inv-loop μ-loop
 loop-again t c =
@@ -176,37 +176,37 @@ loop-again t c =
     let f = x .before .loop .inv in
     let inside = x .loop-test .taken in
     ⊎-elim
-    (λ w. filling-here (s .pre .1 .0) (s .pre .1 .1) f inside (sym (c .before .member .ensures) ∙ not-t _ (w .0 .taken)) (w .2 .ensures) (w .7) (w .6) (w .5))
-    (λ w. filling-skip (s .pre .1 .0) (s .pre .1 .1) f inside (sym (c .before .member .ensures) ∙ not-f _ (w .0 .left)) (w .3) (w .2) (w .1))
+    (λ w. filling-here (s .pre .1 .convertible) (s .pre .1 .at-node) f inside (sym (c .before .member .ensures) ∙ not-t _ (w .0 .taken)) (w .2 .ensures) (w .7) (w .6) (w .5))
+    (λ w. filling-skip (s .pre .1 .convertible) (s .pre .1 .at-node) f inside (sym (c .before .member .ensures) ∙ not-f _ (w .0 .left)) (w .3) (w .2) (w .1))
     (c .if2 .came)
 
 vote-requires : (t : ℕ) → lts.Need-vote-requires (callees t) (at-t t) self.Post Inv-loop μ-loop
-vote-requires t c κs = let s = from-inner (c .before .before) in tabled (s .pre .1 .0)
+vote-requires t c κs = let s = from-inner (c .before .before) in tabled (s .pre .1 .convertible)
 
 slice-write-cells : (t : ℕ) → lts.Need-slice-write-cells (callees t) (at-t t) self.Post Inv-loop μ-loop
 slice-write-cells t c =
     let y = c .before .before in
     let s = from-inner (y .before) in
-    filling-there (s .pre .1 .0) (s .pre .1 .1) (y .loop .inv)
+    filling-there (s .pre .1 .convertible) (s .pre .1 .at-node) (y .loop .inv)
 
 same-length-2 : (t : ℕ) → lts.Need-same-length-2 (callees t) (at-t t) self.Post Inv-loop μ-loop
 same-length-2 t c =
     let y = c .before .before in
     let s = from-inner (y .before) in
-    let h = filling-length (s .pre .1 .0) (s .pre .1 .1) (y .loop .inv) in
+    let h = filling-length (s .pre .1 .convertible) (s .pre .1 .at-node) (y .loop .inv) in
     search needs
 
 returns-2 : (t : ℕ) → lts.Need-returns-2 (callees t) (at-t t) self.Post Inv-loop μ-loop
 returns-2 t c =
     let y = c .before .before in
     let s = from-inner (y .before) in
-    filling-end (s .pre .1 .0) (s .pre .1 .1) (y .loop .inv) (c .before .loop-test .left) (some-left t (y .before .before)) (is-internal t (y .before .before)) (c .vote .ensures)
+    filling-end (s .pre .1 .convertible) (s .pre .1 .at-node) (y .loop .inv) (c .before .loop-test .left) (some-left t (y .before .before)) (is-internal t (y .before .before)) (c .vote .ensures)
 
 add-c : (t : ℕ) → lts.Need-add-c (callees t) (at-t t) self.Post Inv-loop μ-loop
 add-c t c =
     let x = c .before .before in
     let s = from-loop x in
-    board-fits (s .pre .1 .0) (s .pre .1 .1) (x .before .loop .c) (x .loop-test .taken)
+    board-fits (s .pre .1 .convertible) (s .pre .1 .at-node) (x .before .loop .c) (x .loop-test .taken)
 
 pub +resolve-node-spec : {M : Type 1} → statement M
 +resolve-node-spec = close μ-resolve-node λ t. lts.spec (callees t)

@@ -6,7 +6,7 @@ use Rattle.resolving.proofs.resolving.resolve_root.Statement.{statement
 use Rattle.resolving.proofs.resolving.resolve_root.Tie as tie
 
 resolve-node-requires : tie.Need-resolve-node-requires
-resolve-node-requires c κs = let s = c .before .before .before in (s .pre .0, root-stands (s .pre .0) (s .pre .1))
+resolve-node-requires c κs = let s = c .before .before .before in record { convertible = s .pre .convertible; at-node = root-stands (s .pre .convertible) (s .pre .top-is) }
 
 returns : tie.Need-returns
 returns c =
@@ -14,14 +14,14 @@ returns c =
     let x = test .before .before .before in
     let ask = x .before in
     let s = ask .before .before .before in
-    none-roots (s .pre .0) (s .pre .1) (x .resolve-node .ensures) (test .if1 .taken) (c .default .ensures)
+    none-roots (s .pre .convertible) (s .pre .top-is) (x .resolve-node .ensures) (test .if1 .taken) (c .default .ensures)
 
 returns-2 : tie.Need-returns-2
 returns-2 c =
     let x = c .before .before .before in
     let ask = x .before in
     let s = ask .before .before .before in
-    some-roots (s .pre .0) (s .pre .1) (x .resolve-node .ensures) (c .if1 .left)
+    some-roots (s .pre .convertible) (s .pre .top-is) (x .resolve-node .ensures) (c .if1 .left)
 
 pub resolve-root-spec : {M : Type 1} → statement M
 resolve-root-spec =

@@ -21,7 +21,7 @@ detect-nodes-requires c κs =
     let x = c .before .before .before in
     let list = x .before in
     let s = list .before .before .before in
-    (s .pre .convertible, front-listed (s .pre .convertible) (s .pre .low) (s .pre .high) (x .inner-nodes .ensures))
+    record { convertible = s .pre .convertible; listed = front-listed (s .pre .convertible) (s .pre .low) (s .pre .high) (x .inner-nodes .ensures) }
 
 pub detect-level-spec : {M : Type 1} → statement M
 detect-level-spec =

@@ -15,21 +15,21 @@ use Rattle.rule_c.proofs.rule_c.detect_nodes.Statement.{statement}
 use Rattle.rule_c.proofs.rule_c.detect_nodes.Tie as tie
 
 abbrev Inv-loop : tie.InvT-loop
-Inv-loop plan holders board run round level nodes list cells start width detected₀ i₀ detected i =
-    detectBy plan run round cells (drop i (inner plan board level)) detected ≡ detectBy plan run round cells (inner plan board level) list
+Inv-loop plan holders board run round level nodes list cells start width grown₀ i₀ grown i =
+    detectBy plan run round cells (drop i (inner plan board level)) grown ≡ detectBy plan run round cells (inner plan board level) list
 
 abbrev μ-loop : tie.MeasureT-loop
-μ-loop plan holders board run round level nodes list cells start width detected₀ i₀ detected i = length nodes - i
+μ-loop plan holders board run round level nodes list cells start width grown₀ i₀ grown i = length nodes - i
 
 add-level-start : tie.Need-add-level-start Inv-loop μ-loop
-add-level-start c = let s = c .before .before .before in level-fits (s .pre .0) (s .pre .1)
+add-level-start c = let s = c .before .before .before in level-fits (s .pre .convertible) (s .pre .listed)
 
 sub-width : tie.Need-sub-width Inv-loop μ-loop
 sub-width c =
     let e = c .before in
     let known = e .before in
     let s = known .before .before .before in
-    level-most (s .pre .0) (s .pre .1)
+    level-most (s .pre .convertible) (s .pre .listed)
 
 mul-from : tie.Need-mul-from Inv-loop μ-loop
 mul-from c =
@@ -37,7 +37,7 @@ mul-from c =
     let e = x .before .before .before in
     let known = e .before in
     let s = known .before .before .before in
-    index-fits (s .pre .0) (s .pre .1) (x .before .loop .i) (x .loop-test .taken) (c .index-of .result) (c .index-of .ensures)
+    index-fits (s .pre .convertible) (s .pre .listed) (x .before .loop .i) (x .loop-test .taken) (c .index-of .result) (c .index-of .ensures)
 
 add-from : tie.Need-add-from Inv-loop μ-loop
 add-from c =
@@ -45,7 +45,7 @@ add-from c =
     let e = x .before .before .before in
     let known = e .before in
     let s = known .before .before .before in
-    from-fits (s .pre .0) (s .pre .1) (x .before .loop .i) (x .loop-test .taken) (e .level-start .ensures) (c .index-of .ensures)
+    from-fits (s .pre .convertible) (s .pre .listed) (x .before .loop .i) (x .loop-test .taken) (e .level-start .ensures) (c .index-of .ensures)
 
 passes-at-requires : tie.Need-passes-at-requires Inv-loop μ-loop
 passes-at-requires c κs =
@@ -53,7 +53,10 @@ passes-at-requires c κs =
     let e = x .before .before .before in
     let known = e .before in
     let s = known .before .before .before in
-    (tabled (s .pre .0), beside (s .pre .0) (s .pre .1) (x .before .loop .i) (x .loop-test .taken) (e .level-start .ensures) (c .index-of .ensures))
+    record {
+      tabled = tabled (s .pre .convertible);
+      beside = beside (s .pre .convertible) (s .pre .listed) (x .before .loop .i) (x .loop-test .taken) (e .level-start .ensures) (c .index-of .ensures);
+    }
 
 loop-again : tie.Need-loop-again Inv-loop μ-loop
 loop-again c =
@@ -63,10 +66,10 @@ loop-again c =
     let known = e .before in
     let s = known .before .before .before in
     let l = x .before .loop in
-    let r = passes-here (s .pre .0) (s .pre .1) l.i (x .loop-test .taken) (e .level-start .ensures) (y .index-of .ensures) l.detected (c .before .passes-at .ensures) in
+    let r = passes-here (s .pre .convertible) (s .pre .listed) l.i (x .loop-test .taken) (e .level-start .ensures) (y .index-of .ensures) l.grown (c .before .passes-at .ensures) in
     ⊎-elim
-    (λ w. node-joined (s .pre .0) (s .pre .1) l.i (x .loop-test .taken) (s .args .run) (s .args .round) l.detected (c .if1 .detected) (w .1 .result) (r ∙ not-t _ (w .0 .taken)) (w .1 .ensures) (w .3 ∙ w .2 .ensures) ∙ l .inv)
-    (λ w. node-kept (s .pre .0) (s .pre .1) l.i (x .loop-test .taken) (s .args .run) (s .args .round) l.detected (c .if1 .detected) (r ∙ not-f _ (w .0 .left)) (w .1) ∙ l .inv)
+    (λ w. node-joined (s .pre .convertible) (s .pre .listed) l.i (x .loop-test .taken) (s .args .run) (s .args .round) l.grown (c .if1 .grown) (w .1 .result) (r ∙ not-t _ (w .0 .taken)) (w .1 .ensures) (w .3 ∙ w .2 .ensures) ∙ l .inv)
+    (λ w. node-kept (s .pre .convertible) (s .pre .listed) l.i (x .loop-test .taken) (s .args .run) (s .args .round) l.grown (c .if1 .grown) (r ∙ not-f _ (w .0 .left)) (w .1) ∙ l .inv)
     (c .if1 .came)
 
 returns : tie.Need-returns Inv-loop μ-loop
@@ -75,7 +78,7 @@ returns c =
     let e = c .before .before .before in
     let known = e .before in
     let s = known .before .before .before in
-    sym (nodes-done (s .pre .0) (s .pre .1) (s .args .run) (s .args .round) l.i l.detected (c .loop-test .left)) ∙ l .inv
+    sym (nodes-done (s .pre .convertible) (s .pre .listed) (s .args .run) (s .args .round) l.i l.grown (c .loop-test .left)) ∙ l .inv
 
 pub detect-nodes-spec : {M : Type 1} → statement M
 detect-nodes-spec =

@@ -8,7 +8,7 @@ use borrow.Author.Needs.{needs}
 use Rattle.sets.proofs.Tests.{not-t, not-f}
 use Rattle.tree.specs.Places.{outsideBelow}
 use Rattle.tree.proofs.Boards.{outside-zero, outside-more, outside-skip}
-use Rattle.voting.specs.Worth.{table}
+use Rattle.voting.specs.Worth.{childTable}
 use Rattle.voting.proofs.Table.{table-zero, table-skip}
 use Rattle.rule_g.specs.Visits.{kid}
 use Rattle.rule_g.proofs.Kids.{kid-more}
@@ -17,7 +17,7 @@ use Rattle.rule_g.proofs.rule_g.child_values.Tie as tie
 
 abbrev Inv-loop : tie.InvT-loop
 Inv-loop plan boards from cells n values₀ at₀ c₀ values at c =
-    (c ≤ n) × (at ≡ from + outsideBelow boards c) × (values ≡ table (kid plan boards from cells) boards c)
+    (c ≤ n) × (at ≡ from + outsideBelow boards c) × (values ≡ childTable (kid plan boards from cells) boards c)
 
 abbrev μ-loop : tie.MeasureT-loop
 μ-loop plan boards from cells n values₀ at₀ c₀ values at c = n - c
@@ -33,14 +33,14 @@ shared-slice-read-value c =
     let at-loop = at-member .before .before in
     let e = at-loop .before .before in
     let l = at-loop .loop in
-    omega (arith, l .inv .1, e .pre .1 l.c (omega arith) (sym (at-member .member .ensures) ∙ not-t _ (c .before .if1 .taken)))
+    omega (arith, l .inv .1, e .pre .there l.c (omega arith) (sym (at-member .member .ensures) ∙ not-t _ (c .before .if1 .taken)))
 
 array-write-values : tie.Need-array-write-values Inv-loop μ-loop
 array-write-values c =
     let at-member = c .before .before .before in
     let at-loop = at-member .before .before in
     let e = at-loop .before .before in
-    omega (arith, e .pre .0)
+    omega (arith, e .pre .most-boards)
 
 add-at : tie.Need-add-at Inv-loop μ-loop
 add-at c = record { fits = omega (arith, shared-slice-read-value (c .before)) }
@@ -69,7 +69,7 @@ returns : tie.Need-returns Inv-loop μ-loop
 returns c =
     let l = c .before .loop in
     let a = c .before .before .before .args in
-    l .inv .2 ∙ ap (table (kid a.plan a.boards a.from (a.cells .now)) a.boards) (let z : l.c ≡ a.plan .n = omega arith in z)
+    l .inv .2 ∙ ap (childTable (kid a.plan a.boards a.from (a.cells .now)) a.boards) (let z : l.c ≡ a.plan .n = omega arith in z)
 
 pub child-values-spec : {M : Type 1} → statement M
 child-values-spec =

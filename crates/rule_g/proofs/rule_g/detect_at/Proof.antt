@@ -24,7 +24,7 @@ returns c =
     let at-shared-slice-known = at-passes-arg .before .before .before in
     let start = at-shared-slice-known .before in
     let a = start .args in
-    let now : Scan = record { detected = a.list; cells = a.cells .now } in
+    let now : Scan = record { list = a.list; cells = a.cells .now } in
     sym (detect-kept a.plan a.board a.run a.round (nodeAt a.plan (a.round .0 - 1) a.node) now (sym (at-passes .passes .ensures) ∙ c .if1 .taken))
 
 silence-requires : tie.Need-silence-requires
@@ -60,11 +60,11 @@ returns-2 c =
     let a = e .args in
     let v = e .pre .visit in
     let α = nodeAt a.plan (a.round .0 - 1) a.node in
-    let now : Scan = record { detected = a.list; cells = a.cells .now } in
+    let now : Scan = record { list = a.list; cells = a.cells .now } in
     let end : found .last-of .result ≡ last α = found .last-of .ensures ∙ v .is-node .end in
     let below : last α < a.plan .n = omega (arith, v .is-node .end, end-below v) in
     let joined = detect-joined a.plan a.board a.run a.round α now (sym (at-passes .passes .ensures) ∙ found .before .if1 .left) in
-    ap₂ (λ d cells. record { detected = d; cells = cells })
+    ap₂ (λ d cells. record { list = d; cells = cells })
     (c .join .ensures ∙ ap₂ (λ q level. join q a.run a.round Rule.G level a.list) end (sym (label-level v)))
     (listed .before .silence .ensures
     ∙ ap (λ q. fill a.plan q (sent a.plan q a.board a.round) [] (a.cells .now)) end

@@ -27,7 +27,7 @@ mul-result : tie.Need-mul-result
 mul-result c = record { fits = omega (arith, product c) }
 
 add-result : tie.Need-add-result
-add-result c = record { fits = omega (arith, product c, c .before .pre .1) }
+add-result c = record { fits = omega (arith, product c, c .before .pre .start-most) }
 
 returns : tie.Need-returns
 returns c = let a = c .before .args in ap (λ x. a.start + x * (a.n - a.level)) (c .index-of .ensures)

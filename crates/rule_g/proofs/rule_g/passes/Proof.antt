@@ -7,7 +7,7 @@ use borrow.Author.Needs.{needs}
 use Rattle.sets.specs.Sets.{member}
 use Rattle.tree.specs.Labels.{last}
 use Rattle.protocol.specs.Detection.{explained, byCell, passes}
-use Rattle.voting.specs.Worth.{table}
+use Rattle.voting.specs.Worth.{childTable}
 use Rattle.voting.specs.Tables.{explainedBy}
 use Rattle.frames.specs.Nodes.{nodeAt}
 use Rattle.rule_g.specs.Visits.{kid, Kids}
@@ -32,18 +32,16 @@ first-child-requires c κs =
     let at-last-of = c .before .before .before in
     let at-as-set = at-last-of .before in
     let e = at-as-set .before .before .before in
-    (e .pre .level-below, start-fits (e .pre))
+    record { level-below = e .pre .level-below; start-most = start-fits (e .pre) }
 
 child-values-requires : tie.Need-child-values-requires
 child-values-requires c κs =
     let at-boards-of = c .before in
     let at-last-of = at-boards-of .before .before .before in
     let at-as-set = at-last-of .before in
-    let e = at-as-set .before .before .before in (
-      e .pre .tabled .most-boards,
-      subst (λ s. Kids (e .args .plan) s (c .first-child .result) (e .args .cells .now)) (sym (at-boards-of .boards-of .ensures))
-          (subst (λ k. Kids (e .args .plan) (e .args .node % 128) k (e .args .cells .now)) (sym (c .first-child .ensures)) (kids-there (e .pre))),
-    )
+    let e = at-as-set .before .before .before in
+    subst (λ s. Kids (e .args .plan) s (c .first-child .result) (e .args .cells .now)) (sym (at-boards-of .boards-of .ensures))
+    (subst (λ k. Kids (e .args .plan) (e .args .node % 128) k (e .args .cells .now)) (sym (c .first-child .ensures)) (kids-there (e .pre)))
 
 returns-2 : tie.Need-returns-2
 unfolding passes
@@ -61,7 +59,7 @@ returns-2 c =
     ∙ ap (explainedBy a.plan (at-boards-of .boards-of .result) (c .before .child-values .result)) (list .ensures)
     ∙ ap₂ (λ s t. explainedBy a.plan s t a.list) (at-boards-of .boards-of .ensures)
     (c .before .child-values .ensures
-    ∙ ap₂ (λ s k. table (kid a.plan s k (a.cells .now)) s (a.plan .n)) (at-boards-of .boards-of .ensures) (c .before .before .first-child .ensures))
+    ∙ ap₂ (λ s k. childTable (kid a.plan s k (a.cells .now)) s (a.plan .n)) (at-boards-of .boards-of .ensures) (c .before .before .first-child .ensures))
     ∙ explained-kids (e .pre) a.list
     ∙ sym (ap (λ b. b || explained a.plan α (byCell a.plan (a.cells .now) α) a.list) out)
 

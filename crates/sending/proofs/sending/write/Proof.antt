@@ -11,7 +11,7 @@ returns : tie.Need-returns
 unfolding sentSays refusal
 returns c =
     let e = c .before .before .before in
-    writes-none (e .pre .0) (e .args .cells .now) (e .args .out .now) (idle-first (e .pre .0) (c .if1 .taken))
+    writes-none (e .pre .standing) (e .args .cells .now) (e .args .out .now) (idle-first (e .pre .standing) (c .if1 .taken))
 
 pub write-spec : {M : Type 1} → statement M
 write-spec =

@@ -40,14 +40,14 @@ returns c =
     let αs = labelsOf a.plan a.level (a.nodes .now) in
     let f = a.frame .now in
     let nodes = labels-length a.plan a.level (a.nodes .now) in
-    let values : decode (take (made .if1 .length - 0) f) ≡ counted a.detected a.q αs (decode f) =
+    let values : decode (take (made .if1 .length - 0) f) ≡ counted a.list a.q αs (decode f) =
     ⊎-elim
     (λ w. ap decode (ap (λ k. take (k - 0) f) (w .4) ∙ take-all (length f - 0) f (omega arith))
-    ∙ sym (counted-all a.detected a.q αs (decode f) (omega (arith, w .0 .taken, size .value-count .ensures)) (ap (member a.q) (sym (w .1 .ensures)) ∙ sym (w .2 .ensures) ∙ not-t _ (w .3 .taken))))
+    ∙ sym (counted-all a.list a.q αs (decode f) (omega (arith, w .0 .taken, size .value-count .ensures)) (ap (member a.q) (sym (w .1 .ensures)) ∙ sym (w .2 .ensures) ∙ not-t _ (w .3 .taken))))
     (λ w. ap (λ k. decode (take (k - 0) f)) (w .1) ∙ decode-none
     ∙ sym (⊎-elim
-    (λ x. counted-listed a.detected a.q αs (decode f) (ap (member a.q) (sym (x .1 .ensures)) ∙ sym (x .2 .ensures) ∙ not-f _ (x .3 .left)))
-    (λ x. counted-misfit a.detected a.q αs (decode f) (λ e. x .left (size .value-count .ensures ∙ e ∙ nodes)))
+    (λ x. counted-listed a.list a.q αs (decode f) (ap (member a.q) (sym (x .1 .ensures)) ∙ sym (x .2 .ensures) ∙ not-f _ (x .3 .left)))
+    (λ x. counted-misfit a.list a.q αs (decode f) (λ e. x .left (size .value-count .ensures ∙ e ∙ nodes)))
     (w .0 .came)))
     (made .if1 .came) in
     at-store-at .store-at .ensures ∙ ap (λ vs. fill a.plan a.q αs vs (a.cells .now)) values

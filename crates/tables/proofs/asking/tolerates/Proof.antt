@@ -6,10 +6,10 @@ use Rattle.tables.proofs.asking.tolerates.Statement.{statement}
 use Rattle.tables.proofs.asking.tolerates.Tie as tie
 
 holds-requires : tie.Need-holds-requires
-holds-requires c κs = let e = c .before in asked (e .pre .0) (e .args .s) (e .pre .1)
+holds-requires c κs = asked (c .before .pre)
 
 returns : tie.Need-returns
-returns c = let e = c .before .before in c .holds .ensures ∙ held-is (e .pre .0) (e .args .s) (e .pre .1)
+returns c = c .holds .ensures ∙ held-is (c .before .before .pre)
 
 pub tolerates-spec : {M : Type 1} → statement M
 tolerates-spec = tie.close (tie.spec holds-requires returns)

@@ -17,7 +17,7 @@ returns : tie.Need-returns
 unfolding verdict refusal
 returns c =
     let a = c .before .before .before .args in
-    takes-none a.plan a.q a.detected a.marks (due a.plan a.q a.board a.round) (sent a.plan a.q a.board a.round) (decode (a.frame .now)) (a.cells .now)
+    takes-none a.plan a.q a.list a.marks (due a.plan a.q a.board a.round) (sent a.plan a.q a.board a.round) (decode (a.frame .now)) (a.cells .now)
     (due-none a.plan a.q a.board a.round (c .if1 .taken))
 
 returns-2 : tie.Need-returns-2
@@ -27,7 +27,7 @@ returns-2 c =
     let below = first .before in
     let e = below .before .before .before in
     let a = e .args in
-    takes-word (e .pre .0) (first .if2 .taken) a.q (omega arith) a.detected a.marks (decode (a.frame .now)) (a.cells .now) _ _ (heard .take-word .ensures)
+    takes-word (e .pre .standing) (first .if2 .taken) a.q (omega arith) a.list a.marks (decode (a.frame .now)) (a.cells .now) _ _ (heard .take-word .ensures)
 
 take-later-requires : tie.Need-take-later-requires
 take-later-requires c κs =
@@ -37,10 +37,10 @@ take-later-requires c κs =
     let e = below .before .before .before in
     let ne : e .args .round .0 ≢ 1 = second .if2 .left in
     record {
-      standing = with-table (held .table-of .result) (e .pre .0) (held .table-of .ensures);
-      later = omega (arith, e .pre .0 .round-low);
+      standing = with-table (held .table-of .result) (e .pre .standing) (held .table-of .ensures);
+      later = omega (arith, e .pre .standing .round-low);
       sender = omega arith;
-      enough = e .pre .1;
+      enough = e .pre .enough;
     }
 
 pub take-spec : {M : Type 1} → statement M

@@ -26,7 +26,7 @@ tolerates-requires : tie.Need-tolerates-requires
 tolerates-requires c κs =
     let else1 = c .before .before .before in
     let e = else1 .before .before .before in
-    (e .pre .0, agreeing-below (e .args .plan .n) (e .args .boards) _ _ (e .args .t4) (c .agreeing-on .ensures))
+    record { tabled = e .pre .tabled; below = agreeing-below (e .args .plan .n) (e .args .boards) _ _ (e .args .t4) (c .agreeing-on .ensures) }
 
 returns-3 : tie.Need-returns-3
 unfolding elected

@@ -25,7 +25,7 @@ elects-requires : tie.Need-elects-requires Inv-loop μ-loop
 elects-requires c κs =
     let at-loop = c .before .before in
     let start = at-loop .before .before in
-    (start .pre, omega arith)
+    record { tabled = start .pre; below = omega arith }
 
 returns : tie.Need-returns Inv-loop μ-loop
 returns c =

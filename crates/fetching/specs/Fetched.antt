@@ -1,0 +1,28 @@
+-- What is read of a frame of a sheet. A middle layer: the frame is `findFrame` of sheet/Playing.
+use Prim.Native.Nat.{ℕ, min}
+use mathlib.Core.List.{List, _++_}
+use mathlib.Core.Option.{Option, some, none}
+use lib.ListN.{length, take, drop}
+use Rattle.fetching.specs.declared.fetching.Found.{Found}
+use Rattle.fetching.specs.declared.fetching.Found.the-variants.{Missing, Values}
+
+-- A frame of the sheet: none, or how many of its values were read.
+unfoldable pub foundSays : Found → Option ℕ
+foundSays Missing = none
+foundSays (Values k) = some k
+
+-- What is read of a frame, as many values as the buffer takes: their number, none if there is no frame, and the buffer.
+pub record Read : Type 0 where
+  pub count : Option ℕ
+  pub buffer : List ℕ
+
+unfoldable pub readLength : Option (List ℕ) → ℕ → Option ℕ
+readLength none room = none
+readLength (some vs) room = some (min (length vs) room)
+
+unfoldable pub readValues : Option (List ℕ) → List ℕ → List ℕ
+readValues none buffer = buffer
+readValues (some vs) buffer = take (length buffer) vs ++ drop (length vs) buffer
+
+abbrev pub readInto : Option (List ℕ) → List ℕ → Read
+readInto v buffer = record { count = readLength v (length buffer); buffer = readValues v buffer }

@@ -1,0 +1,2 @@
+// All frame lines of a sheet, judged in order.
+pub mod lines;

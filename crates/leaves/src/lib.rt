@@ -1,0 +1,2 @@
+// Which nodes are leaves, and what a leaf resolves to.
+pub mod leaf;

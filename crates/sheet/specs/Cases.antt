@@ -1,0 +1,156 @@
+-- The sessions to hold it against: cases 1 to 10 of 01 as one table, and the test of a row.
+use Prim.Native.Nat.{ℕ, zero, suc, _+_, _-_}
+use mathlib.Core.Bool.{Bool, true, _&&_}
+use mathlib.Core.List.{List, [], _∷_, _++_}
+use lib.Dec.{eqb}
+use lib.ListN.{length, getD, replicate}
+use Rattle.sets.specs.Only.{sameList}
+use Rattle.plan.specs.declared.plan.Plan.{Plan}
+use Rattle.heights.specs.Levels.{height}
+use Rattle.schedule.specs.Schedule.{rounds, runs, steps}
+use Rattle.admission.specs.Calls.{admitting}
+use Rattle.settings.specs.Planning.{planning}
+use Rattle.plan.specs.Calls.{planned}
+use Rattle.protocol.specs.Limits.{outputNeeded, cellsNeeded}
+use Rattle.protocol.specs.Nodes.{nodes}
+use Rattle.protocol.specs.Calls.{beginning, receiving}
+use Rattle.sheet.specs.Playing.{Play, playing, benchPrints}
+use Rattle.tree.specs.Cells.{blank}
+
+pub data Row : Type 0 where
+  -- n, sets: the number and the values of admitting
+  admit : ℕ → List ℕ → ℕ → List ℕ → Row
+  -- n, sets, d, m, b: the number of planning
+  refuse : ℕ → List ℕ → ℕ → ℕ → ℕ → ℕ → Row
+  -- n, sets, d, b: H, runs, rounds over all runs
+  schedule : ℕ → List ℕ → ℕ → ℕ → ℕ → ℕ → ℕ → Row
+  -- n, sets, d: the number of nodes
+  tree : ℕ → List ℕ → ℕ → ℕ → Row
+  -- a sheet: all that is printed, and what the parts of the boards hold, the others being left alone
+  sheet : List ℕ → List ℕ → List ℕ → Row
+  -- a sheet that is turned down: the line that is printed
+  refusedSheet : List ℕ → List ℕ → Row
+  -- m, a value handed in: what is stored
+  stored : ℕ → ℕ → ℕ → Row
+
+-- The nodes of levels 1 to k.
+unfoldable pub nodeCount : Plan → ℕ → ℕ
+nodeCount p zero = 0
+nodeCount p (suc k) = nodeCount p k + length (nodes p 0 (suc k))
+
+-- Lent buffers with a mark in every byte, to see what is touched.
+unfoldable pub lentCells : List ℕ
+lentCells = replicate cellsNeeded 7
+
+unfoldable pub lentOut : List ℕ
+lentOut = replicate outputNeeded 9
+
+unfoldable pub played : Play → List ℕ → List ℕ → Bool
+played r text cells =
+    (eqb (r .answer .number) 0 && sameList (r .answer .values) (length text ∷ []))
+    && (sameList (r .out) (text ++ replicate (outputNeeded - length text) 9) && sameList (r .cells) (cells ++ replicate (cellsNeeded - length cells) 7))
+
+-- Is the plan with span 16 accepted?
+unfoldable pub isAccepted : ℕ → List ℕ → ℕ → ℕ → Bool
+isAccepted n sets d b = eqb (planning n (length sets) sets (record { dealer = d; span = 16; depth = b }) .number) 0
+
+-- Does a row hold?
+unfoldable pub holds : Row → Bool
+holds (admit n sets k vs) = let o = admitting n (length sets) sets in eqb (o .number) k && sameList (o .values) vs
+holds (refuse n sets d m b k) = eqb (planning n (length sets) sets (record { dealer = d; span = m; depth = b }) .number) k
+holds (schedule n sets d b h t j) =
+    let p = planned n sets (record { dealer = d; span = 16; depth = b }) in
+    (isAccepted n sets d b && eqb (height p) h) && (eqb (runs p .0) t && eqb (steps p) j)
+holds (tree n sets d k) = let p = planned n sets (record { dealer = d; span = 16; depth = 0 }) in isAccepted n sets d 0 && eqb (nodeCount p (rounds p .0)) k
+holds (sheet text out cells) = let r = playing text lentCells lentOut in played r out cells
+holds (refusedSheet text line) = sameList (benchPrints text lentCells lentOut) line
+holds (stored m v x) =
+    let p = planned 4 (1 ∷ 2 ∷ 4 ∷ 8 ∷ []) (record { dealer = 0; span = m; depth = 0 }) in
+    let b = beginning p 1 (replicate 16 9) .board in
+    let r = receiving b 0 (v ∷ []) in
+    eqb (r .answer .number) 0 && eqb (getD (r .board .cells) 0 blank) x
+
+unfoldable pub allHold : List Row → Bool
+allHold [] = true
+allHold (r ∷ rs) = holds r && allHold rs
+
+-- 003, example 1.
+unfoldable pub example1 : List ℕ
+example1 = 0x07 ∷ 0x09 ∷ 0x12 ∷ 0x22 ∷ 0x0C ∷ []
+
+-- The head of cases 7 and 8, 0410000005040102040801, and a newline.
+unfoldable pub head7 : List ℕ
+head7 =
+    0x30 ∷ 0x34 ∷ 0x31 ∷ 0x30 ∷ 0x30 ∷ 0x30 ∷ 0x30 ∷ 0x30 ∷ 0x30 ∷ 0x35 ∷ 0x30 ∷ 0x34 ∷ 0x30 ∷ 0x31 ∷ 0x30 ∷ 0x32 ∷ 0x30 ∷ 0x34
+    ∷ 0x30 ∷ 0x38 ∷ 0x30 ∷ 0x31 ∷ 0x0A ∷ []
+
+-- The head of case 9, 0410000005040102040808, and a newline.
+unfoldable pub head9 : List ℕ
+head9 =
+    0x30 ∷ 0x34 ∷ 0x31 ∷ 0x30 ∷ 0x30 ∷ 0x30 ∷ 0x30 ∷ 0x30 ∷ 0x30 ∷ 0x35 ∷ 0x30 ∷ 0x34 ∷ 0x30 ∷ 0x31 ∷ 0x30 ∷ 0x32 ∷ 0x30 ∷ 0x34
+    ∷ 0x30 ∷ 0x38 ∷ 0x30 ∷ 0x38 ∷ 0x0A ∷ []
+
+-- 010100, a receiver's digits, and a value's digits, and a newline: a frame of the dealer.
+unfoldable pub dealerLine : ℕ → ℕ → List ℕ
+dealerLine i v =
+    0x30 ∷ 0x31 ∷ 0x30 ∷ 0x31 ∷ 0x30 ∷ 0x30 ∷ 0x30 ∷ i ∷ 0x30 ∷ v ∷ 0x0A ∷ []
+
+-- 0102030109 and a newline.
+unfoldable pub liar9 : List ℕ
+liar9 = 0x30 ∷ 0x31 ∷ 0x30 ∷ 0x32 ∷ 0x30 ∷ 0x33 ∷ 0x30 ∷ 0x31 ∷ 0x30 ∷ 0x39 ∷ 0x0A ∷ []
+
+-- A printed line: 0, a board's digit, 0, a value's digit, 0, a set's digit, and a newline.
+unfoldable pub printedLine : ℕ → ℕ → ℕ → List ℕ
+printedLine i v s = 0x30 ∷ i ∷ 0x30 ∷ v ∷ 0x30 ∷ s ∷ 0x0A ∷ []
+
+-- What a board's part holds at the end: the decision, and FF.
+unfoldable pub decidedPart : ℕ → List ℕ
+decidedPart v = v ∷ replicate 15 0xFF
+
+-- A part that is left alone.
+unfoldable pub alone : List ℕ
+alone = replicate 16 7
+
+unfoldable pub caseTable : List Row
+caseTable =
+    -- 1, 2
+    admit 3 (0x01 ∷ 0x02 ∷ 0x04 ∷ []) 5 (0 ∷ 1 ∷ 2 ∷ [])
+    ∷ admit 4 (0x01 ∷ 0x02 ∷ 0x04 ∷ 0x08 ∷ []) 0 []
+    -- 3
+    ∷ admit 6 example1 0 []
+    ∷ schedule 6 example1 0 0 4 1 4
+    ∷ tree 6 example1 0 24
+    ∷ schedule 6 example1 4 0 3 1 3
+    -- 4
+    ∷ admit 1 (0x00 ∷ []) 0 []
+    ∷ admit 1 (0x01 ∷ []) 5 (0 ∷ 0 ∷ 0 ∷ [])
+    -- 5
+    ∷ schedule 7 (0x3F ∷ []) 0 4 7 5 16
+    ∷ schedule 7 (0x3F ∷ []) 0 5 7 3 13
+    ∷ schedule 7 (0x3F ∷ []) 0 0 7 1 7
+    ∷ schedule 7 (0x3F ∷ []) 0 7 7 1 7
+    ∷ refuse 7 (0x3F ∷ []) 0 16 3 8
+    -- 6
+    ∷ schedule 7 (0x3F ∷ []) 6 4 1 1 1
+    ∷ schedule 7 (0x3F ∷ []) 6 5 1 1 1
+    ∷ schedule 7 (0x3F ∷ []) 6 0 1 1 1
+    ∷ schedule 7 (0x3F ∷ []) 6 7 1 1 1
+    -- 7: values 05, 05, 07; then 010500, 020500, 030500
+    ∷ sheet (head7 ++ (dealerLine 0x31 0x35 ++ (dealerLine 0x32 0x35 ++ dealerLine 0x33 0x37)))
+    (printedLine 0x31 0x35 0x30 ++ (printedLine 0x32 0x35 0x30 ++ printedLine 0x33 0x35 0x30))
+    (alone ++ (decidedPart 5 ++ (decidedPart 5 ++ decidedPart 5)))
+    -- 8: values 05, 07, 09; then 010001, 020001, 030001
+    ∷ sheet (head7 ++ (dealerLine 0x31 0x35 ++ (dealerLine 0x32 0x37 ++ dealerLine 0x33 0x39)))
+    (printedLine 0x31 0x30 0x31 ++ (printedLine 0x32 0x30 0x31 ++ printedLine 0x33 0x30 0x31))
+    (alone ++ (decidedPart 0 ++ (decidedPart 0 ++ decidedPart 0)))
+    -- 9: then 000500, 010500, 020500
+    ∷ sheet (head9 ++ liar9)
+    (printedLine 0x30 0x35 0x30 ++ (printedLine 0x31 0x35 0x30 ++ printedLine 0x32 0x35 0x30))
+    (alone ++ (decidedPart 5 ++ decidedPart 5))
+    -- sheets that are turned down: an empty one, FF160001; case 9 with its frame twice, FF180003
+    ∷ refusedSheet [] (0x46 ∷ 0x46 ∷ 0x31 ∷ 0x36 ∷ 0x30 ∷ 0x30 ∷ 0x30 ∷ 0x31 ∷ 0x0A ∷ [])
+    ∷ refusedSheet (head9 ++ (liar9 ++ liar9)) (0x46 ∷ 0x46 ∷ 0x31 ∷ 0x38 ∷ 0x30 ∷ 0x30 ∷ 0x30 ∷ 0x33 ∷ 0x0A ∷ [])
+    -- 10
+    ∷ stored 16 0x0F 0x0F
+    ∷ stored 16 0x10 0
+    ∷ []
