@@ -20,7 +20,6 @@ use Rattle.refusals.proofs.Outcomes.{passed}
 pub record Admitted (n count : ℕ) (sets : List ℕ) : Type 0 where
   pub some-board : 0 < n
   pub most-boards : n ≤ 7
-  pub some-set : 0 < count
   pub most-sets : count ≤ 32
   pub names : strays n sets ≡ false
   pub gap : covered n sets ≡ false
@@ -29,14 +28,12 @@ pub admitted : (n count : ℕ) (sets : List ℕ) → admitting n count sets .num
 unfolding admitting covering
 admitted n count sets e =
     let (p1, e1) = passed (eqb n 0 || ltb 7 n) (refused 1) _ (omega arith) e in
-    let (p2, e2) = passed (eqb count 0) (refused 2) _ (omega arith) e1 in
-    let (p3, e3) = passed (ltb 32 count) (refused 3) _ (omega arith) e2 in
+    let (p3, e3) = passed (ltb 32 count) (refused 3) _ (omega arith) e1 in
     let (p4, e4) = passed (strays n sets) (refused 4) _ (omega arith) e3 in
     let (p5, e5) = passed (covered n sets) (refusedAt (places n sets)) _ (omega arith) e4 in
     record {
       some-board = let z : n ≢ 0 = eqb-false n 0 (or-l (eqb n 0) (ltb 7 n) p1) in omega arith;
       most-boards = ltb-false 7 n (or-r (eqb n 0) (ltb 7 n) p1);
-      some-set = let z : count ≢ 0 = eqb-false count 0 p2 in omega arith;
       most-sets = ltb-false 32 count p3;
       names = p4;
       gap = p5;

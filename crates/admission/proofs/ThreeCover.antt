@@ -42,7 +42,6 @@ limits n sets w =
     rw (
       ne-eqb n 0 (let h = w .some-board in omega arith),
       le-ltb 7 n (w .most-boards),
-      ne-eqb (length sets) 0 (let h = w .some-set in omega arith),
       le-ltb 32 (length sets) (w .most-sets),
       fit,
     )
@@ -125,31 +124,6 @@ module _ (n : ℕ) (sets : List ℕ) where
       let tol : (i : ℕ) → i < length sets → tolerated sets (getD sets i 0) ≡ true = λ i l. listed-tolerated sets (getD sets i 0) i l (within-refl (getD sets i 0)) in
       (getD sets i 0, getD sets j 0, getD sets k 0, tol i li, tol j lj, tol k lk, h)
 
--- The theorem.
-pub three-cover : ThreeCover
-unfolding covered places covering
-three-cover n sets w =
-    let e : admitting n (length sets) sets ≡ covering n sets = limits n sets w in
-    let to : admitting n (length sets) sets .number ≡ 5 → firstPlace n sets < length sets =
-    λ five. ltb-true (firstPlace n sets) (length sets) (five-covered n sets (ap (λ o. o .number) (sym e) ∙ five)) in
-    let five : firstPlace n sets < length sets → admitting n (length sets) sets .number ≡ 5 =
-    λ f. ap (λ o. o .number) (e ∙ covered-five n sets (lt-ltb (firstPlace n sets) (length sets) f)) in
-    record {
-      answer = cases (covered n sets)
-          (λ t. inr (five (ltb-true (firstPlace n sets) (length sets) t)))
-          (λ f. inl (ap (λ o. o .number) e ∙ rw f));
-      listed = (λ h. found-listed n sets (to h), λ c. five (listed-found n sets c));
-      tolerated = (λ h. listed-covers n sets (found-listed n sets (to h)), λ u. five (listed-found n sets (tolerated-covers n sets (w .some-set) u)));
-      triple = λ h.
-          let f = to h in (
-            firstPlace n sets,
-            secondPlace n sets (firstPlace n sets),
-            thirdPlace n sets (firstPlace n sets) (secondPlace n sets (firstPlace n sets)),
-            ap (λ o. o .values) (e ∙ covered-five n sets (lt-ltb (firstPlace n sets) (length sets) f)),
-            first-triple n sets f,
-          );
-    }
-
 -- 003, Q3: where no three listed sets cover, some board is outside any three tolerated sets.
 pub q3 : (n : ℕ) (sets : List ℕ) → 0 < n → covered n sets ≡ false → (a b c : ℕ) → tolerated sets a ≡ true → tolerated sets b ≡ true → tolerated sets c ≡ true
     → (q : ℕ) × (q < n) × (member q a ≡ false) × (member q b ≡ false) × (member q c ≡ false)
@@ -176,3 +150,37 @@ q3 n sets z gap a b c ta tb tc =
     none : ltb 0 (length sets) ≡ false → (s : ℕ) → tolerated sets s ≡ true → member 0 s ≡ false
     none e s t =
         ⊎-elim (λ x. rw x (member-empty 0)) (λ w. let (i, l, _) = w in absurd (omega (arith, ltb-false 0 (length sets) e))) (tolerated-listed sets s t)
+
+-- The theorem.
+pub three-cover : ThreeCover
+unfolding covered places covering
+three-cover n sets w =
+    let e : admitting n (length sets) sets ≡ covering n sets = limits n sets w in
+    let to : admitting n (length sets) sets .number ≡ 5 → firstPlace n sets < length sets =
+    λ five. ltb-true (firstPlace n sets) (length sets) (five-covered n sets (ap (λ o. o .number) (sym e) ∙ five)) in
+    let five : firstPlace n sets < length sets → admitting n (length sets) sets .number ≡ 5 =
+    λ f. ap (λ o. o .number) (e ∙ covered-five n sets (lt-ltb (firstPlace n sets) (length sets) f)) in
+    record {
+      answer = cases (covered n sets)
+          (λ t. inr (five (ltb-true (firstPlace n sets) (length sets) t)))
+          (λ f. inl (ap (λ o. o .number) e ∙ rw f));
+      listed = (λ h. found-listed n sets (to h), λ c. five (listed-found n sets c));
+      tolerated = (
+        λ h. listed-covers n sets (found-listed n sets (to h)),
+        λ u.
+            let (a, b, c, ta, tb, tc, h) = u in
+            cases (covered n sets)
+            (λ t. five (ltb-true (firstPlace n sets) (length sets) t))
+            (λ gap. let (q, l, x, y, z) = q3 n sets (w .some-board) gap a b c ta tb tc in
+            let left : (member q a || (member q b || member q c)) ≡ false = rw (x, y, z) in
+            clash (h q l) left),
+      );
+      triple = λ h.
+          let f = to h in (
+            firstPlace n sets,
+            secondPlace n sets (firstPlace n sets),
+            thirdPlace n sets (firstPlace n sets) (secondPlace n sets (firstPlace n sets)),
+            ap (λ o. o .values) (e ∙ covered-five n sets (lt-ltb (firstPlace n sets) (length sets) f)),
+            first-triple n sets f,
+          );
+    }

@@ -14,11 +14,10 @@ use Rattle.admission.specs.Calls.{admitting}
 abbrev pub Names : ℕ → List ℕ → Type 0
 Names n sets = (i : ℕ) → i < length sets → (q : ℕ) → member q (getD sets i 0) ≡ true → q < n
 
--- Within the limits: numbers 1 to 4 do not apply.
+-- Within the limits: numbers 1, 3 and 4 do not apply. The list may be empty.
 pub record Within (n : ℕ) (sets : List ℕ) : Type 0 where
   pub some-board : 0 < n
   pub most-boards : n ≤ 7
-  pub some-set : 0 < length sets
   pub most-sets : length sets ≤ 32
   pub names : Names n sets
 

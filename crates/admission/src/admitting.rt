@@ -28,7 +28,7 @@ fn names_other(sets: &[u8], all: u8) -> bool
     false
 }
 
-// Admitting a list of sets: 1 to 5, in order.
+// Admitting a list of sets: 1, 3, 4 and 5, in order. An empty list tolerates the empty set only.
 pub fn admit(n: u8, sets: &[u8]) -> Verdict
     ensures { λ r. ⌜ verdict r ≡ admitting n (length (now (sets .entry))) (now (sets .entry)) ⌝ }
 {
@@ -38,9 +38,6 @@ pub fn admit(n: u8, sets: &[u8]) -> Verdict
     }
     if BOARDS < n {
         return Verdict::Refused(Refusal::Boards);
-    }
-    if count == 0 {
-        return Verdict::Refused(Refusal::NoSets);
     }
     if SETS < count {
         return Verdict::Refused(Refusal::TooManySets);

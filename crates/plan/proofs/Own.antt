@@ -26,7 +26,7 @@ judged-over p l = rw (ne-eqb (p .n) 0 (omega arith), lt-ltb 7 (p .n) l)
 pub judged-sets : (p : Plan) → p .n ≢ 0 → p .n ≤ 7 → 32 < p .count → judged p ≡ refused 3
 unfolding judged planning admitting andThen
 judged-sets p ne l h =
-    rw (ne-eqb (p .n) 0 ne, le-ltb 7 (p .n) l, ne-eqb (p .count) 0 (omega arith), lt-ltb 32 (p .count) h)
+    rw (ne-eqb (p .n) 0 ne, le-ltb 7 (p .n) l, lt-ltb 32 (p .count) h)
 
 -- The listed sets of any other plan are a part of the slots.
 pub judged-slots : (p : Plan) → p .count ≤ length (p .sets)

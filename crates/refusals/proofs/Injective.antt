@@ -6,7 +6,7 @@ use lib.Dec.{eqb}
 use lib.ListN.{getD}
 use borrow.Author.Tests.{ne-eqb}
 use Rattle.refusals.specs.declared.refusal.Refusal.{Refusal}
-use Rattle.refusals.specs.declared.refusal.Refusal.the-variants.{Boards, NoSets, TooManySets, UnknownBoard, Covered, Dealer, Span, Depth, BoardNumber, BoardIsDealer, ShortCells, BadRecord, Decided, NotDue, AlreadyTaken, NothingToSend, ShortOutput, BadValue, Undecided, LongSheet, BadText, BadHead, BadFaulty, BadFrame}
+use Rattle.refusals.specs.declared.refusal.Refusal.the-variants.{Boards, TooManySets, UnknownBoard, Covered, Dealer, Span, Depth, BoardNumber, BoardIsDealer, ShortCells, BadRecord, Decided, NotDue, AlreadyTaken, NothingToSend, ShortOutput, BadValue, Undecided, LongSheet, BadText, BadHead, BadFaulty, BadFrame}
 use Rattle.refusals.specs.declared.refusal.Verdict.{Verdict}
 use Rattle.refusals.specs.declared.refusal.Verdict.the-variants.{Accepted, Refused}
 use Rattle.refusals.specs.Outcome.{Outcome, refusal, verdict}
@@ -16,7 +16,6 @@ use Rattle.refusals.proofs.Outcomes.{refusal-number}
 pub why : Outcome → Refusal
 why o =
     cond (eqb (o .number) 1) Boards
-    (cond (eqb (o .number) 2) NoSets
     (cond (eqb (o .number) 3) TooManySets
     (cond (eqb (o .number) 4) UnknownBoard
     (cond (eqb (o .number) 5) (Covered (getD (o .values) 0 0) (getD (o .values) 1 0) (getD (o .values) 2 0))
@@ -38,12 +37,11 @@ why o =
     (cond (eqb (o .number) 21) BadText
     (cond (eqb (o .number) 22) BadHead
     (cond (eqb (o .number) 23) BadFaulty
-    BadFrame))))))))))))))))))))))
+    BadFrame)))))))))))))))))))))
 
 pub why-refusal : (r : Refusal) → why (refusal r) ≡ r
 unfolding why refusal
 why-refusal Boards = refl
-why-refusal NoSets = refl
 why-refusal TooManySets = refl
 why-refusal UnknownBoard = refl
 why-refusal (Covered i j k) = refl

@@ -8,14 +8,13 @@ use native.Mathlib.Omega.{arith}
 use lib.Dec.{eqb}
 use borrow.Author.Tests.{eq-eqb, ne-eqb, eqb-true, eqb-false}
 use Rattle.refusals.specs.declared.refusal.Refusal.{Refusal}
-use Rattle.refusals.specs.declared.refusal.Refusal.the-variants.{Boards, NoSets, TooManySets, UnknownBoard, Covered, Dealer, Span, Depth, BoardNumber, BoardIsDealer, ShortCells, BadRecord, Decided, NotDue, AlreadyTaken, NothingToSend, ShortOutput, BadValue, Undecided, LongSheet, BadText, BadHead, BadFaulty, BadFrame}
+use Rattle.refusals.specs.declared.refusal.Refusal.the-variants.{Boards, TooManySets, UnknownBoard, Covered, Dealer, Span, Depth, BoardNumber, BoardIsDealer, ShortCells, BadRecord, Decided, NotDue, AlreadyTaken, NothingToSend, ShortOutput, BadValue, Undecided, LongSheet, BadText, BadHead, BadFaulty, BadFrame}
 use Rattle.refusals.specs.Outcome.{Outcome, refusal, andThen}
 use Rattle.sets.proofs.Tests.{cases}
 
 pub refusal-number : (why : Refusal) → refusal why .number ≢ 0
 unfolding refusal
 refusal-number Boards = omega arith
-refusal-number NoSets = omega arith
 refusal-number TooManySets = omega arith
 refusal-number UnknownBoard = omega arith
 refusal-number (Covered i j k) = omega arith

@@ -4,7 +4,7 @@ use mathlib.Core.Bool.{cond}
 use mathlib.Core.List.{List, [], _∷_}
 use lib.Dec.{eqb}
 use Rattle.refusals.specs.declared.refusal.Refusal.{Refusal}
-use Rattle.refusals.specs.declared.refusal.Refusal.the-variants.{Boards, NoSets, TooManySets, UnknownBoard, Covered, Dealer, Span, Depth, BoardNumber, BoardIsDealer, ShortCells, BadRecord, Decided, NotDue, AlreadyTaken, NothingToSend, ShortOutput, BadValue, Undecided, LongSheet, BadText, BadHead, BadFaulty, BadFrame}
+use Rattle.refusals.specs.declared.refusal.Refusal.the-variants.{Boards, TooManySets, UnknownBoard, Covered, Dealer, Span, Depth, BoardNumber, BoardIsDealer, ShortCells, BadRecord, Decided, NotDue, AlreadyTaken, NothingToSend, ShortOutput, BadValue, Undecided, LongSheet, BadText, BadHead, BadFaulty, BadFrame}
 use Rattle.refusals.specs.declared.refusal.Verdict.{Verdict}
 use Rattle.refusals.specs.declared.refusal.Verdict.the-variants.{Accepted, Refused}
 
@@ -24,10 +24,9 @@ refused k = record { number = k; values = [] }
 abbrev pub refusedAt : List ℕ → Outcome
 refusedAt places = record { number = 5; values = places }
 
--- 01, 'When a call is turned down': the number of each refusal.
+-- 01, 'When a call is turned down': the number of each refusal. Number 2, no sets, is no refusal any more (02 a).
 unfoldable pub refusal : Refusal → Outcome
 refusal Boards = refused 1
-refusal NoSets = refused 2
 refusal TooManySets = refused 3
 refusal UnknownBoard = refused 4
 refusal (Covered i j k) = refusedAt (i ∷ j ∷ k ∷ [])

@@ -9,7 +9,6 @@ pub fn number_of(why: Refusal) -> u8
 {
     match why {
         Refusal::Boards => 1,
-        Refusal::NoSets => 2,
         Refusal::TooManySets => 3,
         Refusal::UnknownBoard => 4,
         Refusal::Covered(_, _, _) => 5,

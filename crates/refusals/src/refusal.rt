@@ -6,8 +6,6 @@ ghost use Rattle.refusals.specs.Outcome.{andThen};
 pub enum Refusal {
     // n is 0 or above 7.
     Boards,
-    // No sets.
-    NoSets,
     // Above 32 sets.
     TooManySets,
     // A set names board n or above.

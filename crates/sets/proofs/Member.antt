@@ -229,6 +229,11 @@ within-boards n a e = let q : bitAnd a (2 ^ n - 1) ≡ a = eqb-true (bitAnd a (2
 pub boards-within : (n a : ℕ) → a < 2 ^ n → within a (boards n) ≡ true
 boards-within n a h = member-within n a (boards n) h (λ i l t. member-boards i n ∙ lt-ltb i n l)
 
+-- Only the empty set lies within the empty set.
+pub nothing-within : (a : ℕ) → within a 0 ≡ true → a ≡ 0
+unfolding boards
+nothing-within a e = omega (arith, within-boards 0 a e)
+
 -- The size of a set of boards below n, for n up to 8, counts to n.
 pub size-count : (n s : ℕ) → s < 2 ^ n → n ≤ 8 → size s ≡ count (λ i. member i s) n
 unfolding size

@@ -1,4 +1,5 @@
--- An adversary structure, given by listed sets (01: "A structure is given by 1 to 32 sets"; 003: its basis).
+-- An adversary structure, given by listed sets (01: "A structure is given by 1 to 32 sets"; 003: its basis). 02 a: an empty list
+-- "means that only the empty set is tolerated".
 use Prim.Native.Nat.{ℕ}
 use mathlib.Core.Bool.{Bool, true, false, cond}
 use mathlib.Core.List.{List}

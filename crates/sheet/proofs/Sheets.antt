@@ -121,19 +121,19 @@ frames-head h before line (l ∷ ls) = go (λ f. frames-head h (some f) (suc lin
         (λ b. ap (λ (r : Reading). r .head) (frames-right h before line l ls bytes e b) ∙ ih (frameLine bytes))
         (λ b. ap (λ (r : Reading). r .head) (frames-wrong h before line l ls bytes e b))
 
-head-right : (bytes : List ℕ) (ls : List Line) → judgeHead bytes .number ≡ 0 → readHead bytes ls ≡ readFrames (headOf bytes) none 2 ls
+pub head-right : (bytes : List ℕ) (ls : List Line) → judgeHead bytes .number ≡ 0 → readHead bytes ls ≡ readFrames (headOf bytes) none 2 ls
 unfolding readHead
 head-right bytes ls e = rw (eq-eqb (judgeHead bytes .number) 0 e, readHead)
 
-head-wrong : (bytes : List ℕ) (ls : List Line) → judgeHead bytes .number ≢ 0 → readHead bytes ls ≡ refusedReading (headOf bytes) 1 (judgeHead bytes)
+pub head-wrong : (bytes : List ℕ) (ls : List Line) → judgeHead bytes .number ≢ 0 → readHead bytes ls ≡ refusedReading (headOf bytes) 1 (judgeHead bytes)
 unfolding readHead
 head-wrong bytes ls e = rw (ne-eqb (judgeHead bytes .number) 0 e, readHead)
 
-lines-text : (l : Line) (ls : List Line) → lineBytes l ≡ none → readLines (l ∷ ls) ≡ refusedReading (headOf []) 1 (refused 21)
+pub lines-text : (l : Line) (ls : List Line) → lineBytes l ≡ none → readLines (l ∷ ls) ≡ refusedReading (headOf []) 1 (refused 21)
 unfolding readLines
 lines-text l ls e = rw (e, readLines)
 
-lines-head : (l : Line) (ls : List Line) (bytes : List ℕ) → lineBytes l ≡ some bytes → readLines (l ∷ ls) ≡ readHead bytes ls
+pub lines-head : (l : Line) (ls : List Line) (bytes : List ℕ) → lineBytes l ≡ some bytes → readLines (l ∷ ls) ≡ readHead bytes ls
 unfolding readLines
 lines-head l ls bytes e = rw (e, readLines)
 

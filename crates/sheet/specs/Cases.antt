@@ -1,4 +1,4 @@
--- The sessions to hold it against: cases 1 to 10 of 01 as one table, and the test of a row.
+-- The sessions to hold it against: cases 1 to 10 of 01 and some for 02 as one table, and the test of a row.
 use Prim.Native.Nat.{ℕ, zero, suc, _+_, _-_}
 use mathlib.Core.Bool.{Bool, true, _&&_}
 use mathlib.Core.List.{List, [], _∷_, _++_}
@@ -90,6 +90,11 @@ head9 =
     0x30 ∷ 0x34 ∷ 0x31 ∷ 0x30 ∷ 0x30 ∷ 0x30 ∷ 0x30 ∷ 0x30 ∷ 0x30 ∷ 0x35 ∷ 0x30 ∷ 0x34 ∷ 0x30 ∷ 0x31 ∷ 0x30 ∷ 0x32 ∷ 0x30 ∷ 0x34
     ∷ 0x30 ∷ 0x38 ∷ 0x30 ∷ 0x38 ∷ 0x0A ∷ []
 
+-- A head with no sets: 0, the digit of n, 1000000500, 0, the digit of F, and a newline.
+unfoldable pub bareHead : ℕ → ℕ → List ℕ
+bareHead n f =
+    0x30 ∷ n ∷ 0x31 ∷ 0x30 ∷ 0x30 ∷ 0x30 ∷ 0x30 ∷ 0x30 ∷ 0x30 ∷ 0x35 ∷ 0x30 ∷ 0x30 ∷ 0x30 ∷ f ∷ 0x0A ∷ []
+
 -- 010100, a receiver's digits, and a value's digits, and a newline: a frame of the dealer.
 unfoldable pub dealerLine : ℕ → ℕ → List ℕ
 dealerLine i v =
@@ -153,4 +158,15 @@ caseTable =
     -- 10
     ∷ stored 16 0x0F 0x0F
     ∷ stored 16 0x10 0
+    -- 02 a, no sets: n = 1 prints 000500; n = 4 prints 000500, 010500, 020500, 030500; F = 01 is turned down, FF170001
+    ∷ admit 1 [] 0 []
+    ∷ admit 4 [] 0 []
+    ∷ schedule 1 [] 0 0 1 1 1
+    ∷ schedule 4 [] 0 4 1 1 1
+    ∷ tree 4 [] 0 1
+    ∷ sheet (bareHead 0x31 0x30) (printedLine 0x30 0x35 0x30) []
+    ∷ sheet (bareHead 0x34 0x30)
+    (printedLine 0x30 0x35 0x30 ++ (printedLine 0x31 0x35 0x30 ++ (printedLine 0x32 0x35 0x30 ++ printedLine 0x33 0x35 0x30)))
+    (alone ++ (decidedPart 5 ++ (decidedPart 5 ++ decidedPart 5)))
+    ∷ refusedSheet (bareHead 0x34 0x31) (0x46 ∷ 0x46 ∷ 0x31 ∷ 0x37 ∷ 0x30 ∷ 0x30 ∷ 0x30 ∷ 0x31 ∷ 0x0A ∷ [])
     ∷ []

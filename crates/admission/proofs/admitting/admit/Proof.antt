@@ -31,32 +31,28 @@ returns-2 c = simp (ne-eqb _ _ (c .before .if1 .left), lt-ltb _ _ (c .if2 .taken
 
 returns-3 : tie.Need-returns-3
 unfolding verdict refusal admitting
-returns-3 c = simp (ne-eqb _ _ (c .before .before .if1 .left), le-ltb _ _ (c .before .if2 .left), eq-eqb _ _ (c .if3 .taken))
+returns-3 c = simp (ne-eqb _ _ (c .before .before .if1 .left), le-ltb _ _ (c .before .if2 .left), lt-ltb _ _ (c .if3 .taken))
 
 returns-4 : tie.Need-returns-4
 unfolding verdict refusal admitting
-returns-4 c = simp (ne-eqb _ _ (c .before .before .before .if1 .left), le-ltb _ _ (c .before .before .if2 .left), ne-eqb _ _ (c .before .if3 .left), lt-ltb _ _ (c .if4 .taken))
+returns-4 c =
+    let b = c .before .before .before in
+    let else1 = b .before .before in
+    let start = else1 .before .before in
+    let a = start .args in
+    let strayed = sym (scanned a.n (a.sets .now) (c .before .before .all-boards .result) (omega arith) (c .before .before .all-boards .ensures)) ∙ sym (c .before .names-other .ensures) ∙ c .if4 .taken in
+    simp (ne-eqb _ _ (else1 .if1 .left), le-ltb _ _ (b .before .if2 .left), le-ltb _ _ (b .if3 .left), strayed)
 
 returns-5 : tie.Need-returns-5
 unfolding verdict refusal admitting
 returns-5 c =
-    let b = c .before .before .before in
-    let else1 = b .before .before .before in
-    let start = else1 .before .before in
-    let a = start .args in
-    let strayed = sym (scanned a.n (a.sets .now) (c .before .before .all-boards .result) (omega arith) (c .before .before .all-boards .ensures)) ∙ sym (c .before .names-other .ensures) ∙ c .if5 .taken in
-    simp (ne-eqb _ _ (else1 .if1 .left), le-ltb _ _ (b .before .before .if2 .left), ne-eqb _ _ (b .before .if3 .left), le-ltb _ _ (b .if4 .left), strayed)
-
-returns-6 : tie.Need-returns-6
-unfolding verdict refusal admitting
-returns-6 c =
     let at-all-boards = c .before .before .before in
     let b = at-all-boards .before in
-    let else1 = b .before .before .before in
+    let else1 = b .before .before in
     let start = else1 .before .before in
     let a = start .args in
-    let fit = sym (scanned a.n (a.sets .now) (at-all-boards .all-boards .result) (omega arith) (at-all-boards .all-boards .ensures)) ∙ sym (c .before .before .names-other .ensures) ∙ c .before .if5 .left in
-    simp (ne-eqb _ _ (else1 .if1 .left), le-ltb _ _ (b .before .before .if2 .left), ne-eqb _ _ (b .before .if3 .left), le-ltb _ _ (b .if4 .left), fit) (c .judge-cover .ensures)
+    let fit = sym (scanned a.n (a.sets .now) (at-all-boards .all-boards .result) (omega arith) (at-all-boards .all-boards .ensures)) ∙ sym (c .before .before .names-other .ensures) ∙ c .before .if4 .left in
+    simp (ne-eqb _ _ (else1 .if1 .left), le-ltb _ _ (b .before .if2 .left), le-ltb _ _ (b .if3 .left), fit) (c .judge-cover .ensures)
 
 pub admit-spec : {M : Type 1} → statement M
 admit-spec =
@@ -65,9 +61,8 @@ admit-spec =
     returns
     returns-2
     returns-3
+    (λ c κs. search needs)
+    (λ c κs. search needs)
     returns-4
     (λ c κs. search needs)
-    (λ c κs. search needs)
-    returns-5
-    (λ c κs. search needs)
-    returns-6)
+    returns-5)

@@ -1,0 +1,5 @@
+pub mod Trees
+pub mod Detections
+pub mod Boards
+pub mod Sessions
+pub mod Sheets

@@ -1,0 +1,161 @@
+-- The synchronous session on alike plans: board by board the same, the plan apart.
+-- Assumes nothing.
+use Prim.Native.Nat.{ℕ, zero, suc, _<_}
+use mathlib.Core.Path.{_≡_, refl, sym, _∙_, ap, subst}
+use mathlib.Core.Logic.{_⊎_, inl, inr, ⊎-elim}
+use mathlib.Core.Bool.{true, false, cond}
+use mathlib.Core.List.{List, [], _∷_}
+use mathlib.Core.Option.{Option, some, none}
+use native.Mathlib.Omega.{arith}
+use lib.Dec.{eqb}
+use Rattle.sets.specs.Sets.{member}
+use Rattle.sets.specs.Tabulate.{tabulate}
+use Rattle.sets.proofs.Tests.{cases}
+use Rattle.sets.proofs.Tabulated.{tabulate-at}
+use Rattle.plan.specs.declared.plan.Plan.{Plan}
+use Rattle.plan.specs.Calls.{voidPlan, judged}
+use Rattle.settings.specs.Planning.{planning}
+use Rattle.admission.specs.Calls.{admitting}
+use Rattle.refusals.specs.Outcome.{refused, andThen}
+use Rattle.protocol.specs.Rounds.{Board}
+use Rattle.protocol.specs.Calls.{Result, isTaken, goodPlan, goodRecord, judgeRecord, judgeOpen, freshRecord, voidRecord, judgeBeginning, beginning, judgeReceiving, taking, frameOf, closing}
+use Rattle.protocol.specs.Session.{Adversary, Setting, Boards, nobody, boardAt, begun, hears, handIn, takeAll, hearAll, session}
+use Rattle.alike.specs.Alike.{Alike, boardOn, resultOn}
+use Rattle.alike.proofs.Trees.{itself}
+use Rattle.alike.proofs.Boards.{begins-alike, takes-alike, frame-of-alike, closes-alike}
+
+-- A board whose record meets number 12 keeps it.
+module _ (b : Board) (bad : goodRecord (b .rec) ≡ false) where
+  bad-open : judgeOpen b ≡ refused 12
+  unfolding judgeOpen judgeRecord andThen
+  bad-open = rw bad
+
+  bad-takes : (s : ℕ) (vs : List ℕ) → taking b s vs .board ≡ b
+  unfolding taking judgeReceiving andThen isTaken
+  bad-takes s vs = rw bad-open
+
+  bad-closes : closing b .board ≡ b
+  unfolding closing isTaken
+  bad-closes = rw bad-open
+
+bad-void : goodRecord voidRecord ≡ false
+unfolding goodRecord goodPlan voidRecord isTaken judged voidPlan planning admitting andThen
+bad-void = refl
+
+-- One board on two plans: its plan is the one's, and the other's is the same board on the other plan; or both have one record, which meets number 12.
+abbrev Kin : Plan → Plan → Board → Board → Type 0
+Kin p q b c = ((b ≡ boardOn p b) × (c ≡ boardOn q b)) ⊎ ((c ≡ b) × (goodRecord (b .rec) ≡ false))
+
+module _ (p q : Plan) (a : Alike p q) where
+  kin-frame : (b c : Board) → Kin p q b c → frameOf b ≡ frameOf c
+  kin-frame b c =
+      ⊎-elim
+      (λ k. ap frameOf (k .0) ∙ frame-of-alike p q a b ∙ ap frameOf (sym (k .1)))
+      (λ k. ap frameOf (sym (k .0)))
+
+  kin-takes : (b c : Board) (s : ℕ) (vs : List ℕ) → Kin p q b c → Kin p q (taking b s vs .board) (taking c s vs .board)
+  kin-takes b c s vs =
+      ⊎-elim
+      (λ k. let over : taking b s vs ≡ taking (boardOn p b) s vs = ap (λ x. taking x s vs) (k .0) in
+      let same : taking b s vs .board ≡ boardOn p (taking b s vs .board) =
+      ap (λ (x : Result). x .board) (over ∙ takes-alike p p (itself p) b s vs ∙ ap (resultOn p) (sym over)) in
+      let other : taking c s vs .board ≡ boardOn q (taking b s vs .board) =
+      ap (λ (x : Result). x .board) (ap (λ x. taking x s vs) (k .1) ∙ takes-alike p q a b s vs ∙ ap (resultOn q) (sym over)) in
+      inl (same, other))
+      (λ k. let kept = bad-takes b (k .1) s vs in
+      inr (ap (λ x. taking x s vs .board) (k .0), ap (λ x. goodRecord (x .rec)) kept ∙ k .1))
+
+  kin-closes : (b c : Board) → Kin p q b c → Kin p q (closing b .board) (closing c .board)
+  kin-closes b c =
+      ⊎-elim
+      (λ k. let over : closing b ≡ closing (boardOn p b) = ap closing (k .0) in
+      let same : closing b .board ≡ boardOn p (closing b .board) =
+      ap (λ (x : Result). x .board) (over ∙ closes-alike p p (itself p) b ∙ ap (resultOn p) (sym over)) in
+      let other : closing c .board ≡ boardOn q (closing b .board) =
+      ap (λ (x : Result). x .board) (ap closing (k .1) ∙ closes-alike p q a b ∙ ap (resultOn q) (sym over)) in
+      inl (same, other))
+      (λ k. inr (ap (λ x. closing x .board) (k .0), ap (λ x. goodRecord (x .rec)) (bad-closes b (k .1)) ∙ k .1))
+
+  kin-begins : (i : ℕ) (cells : List ℕ) → Kin p q (beginning p i cells .board) (beginning q i cells .board)
+  unfolding beginning freshRecord
+  kin-begins i cells =
+      let answer = judgeBeginning p i cells in
+      let other = ap (λ (x : Result). x .board) (begins-alike p q a i cells) in
+      cases (isTaken answer)
+      (λ t. inl (begun-own t, other ∙ rw t))
+      (λ t. inr (other ∙ rw t, rw t bad-void))
+    where
+      begun-own : isTaken (judgeBeginning p i cells) ≡ true → beginning p i cells .board ≡ boardOn p (beginning p i cells .board)
+      begun-own t = rw t
+
+-- Settings that differ in their plans alone.
+module _ (s r : Setting) (a : Alike (s .plan) (r .plan)) (faulty : s .faulty ≡ r .faulty) (word : s .word ≡ r .word) (buffer : s .buffer ≡ r .buffer) (liars : Adversary) where
+  abbrev SameBoard : Board → Board → Type 0
+  SameBoard = Kin (s .plan) (r .plan)
+
+  abbrev AllKin : Boards → Boards → Type 0
+  AllKin w v = (i : ℕ) → i < s .plan .n → SameBoard (boardAt w i) (boardAt v i)
+
+  kin-hears : (w v : Boards) → AllKin w v → (i j k : ℕ) → k < s .plan .n → hears s liars w i j k ≡ hears r liars v i j k
+  unfolding hears
+  kin-hears w v kin i j k l = λ x.
+      cond (member k (faulty x)) (liars i j k)
+      (cond (eqb k (a .dealer x)) (some (word x ∷ [])) (some (kin-frame (s .plan) (r .plan) a (boardAt w k) (boardAt v k) (kin k l) x)))
+
+  kin-hand-in : (k : ℕ) (told : Option (List ℕ)) (b c : Board) → SameBoard b c → SameBoard (handIn k told b) (handIn k told c)
+  unfolding handIn
+  kin-hand-in k none b c h = h
+  kin-hand-in k (some vs) b c h = kin-takes (s .plan) (r .plan) a b c k vs h
+
+  kin-take-all : (f g : ℕ → Option (List ℕ)) (b c : Board) (k : ℕ) → ((i : ℕ) → i < k → f i ≡ g i) → SameBoard b c → SameBoard (takeAll f b k) (takeAll g c k)
+  unfolding takeAll
+  kin-take-all f g b c zero e h = h
+  kin-take-all f g b c (suc k) e h =
+      subst (λ m. SameBoard (handIn k (f k) (takeAll f b k)) (handIn k m (takeAll g c k))) (e k (omega arith))
+      (kin-hand-in k (f k) (takeAll f b k) (takeAll g c k) (kin-take-all f g b c k (λ i l. e i (omega arith)) h))
+
+  -- The boards of both settings, by number.
+  module _ (f g : ℕ → Board) (same : (i : ℕ) → i < s .plan .n → SameBoard (f i) (g i)) where
+    kin-tabulate : AllKin (tabulate f 0 (s .plan .n)) (tabulate g 0 (r .plan .n))
+    unfolding boardAt
+    kin-tabulate i l =
+        let here = tabulate-at f (s .plan .n) i nobody l in
+        let there = tabulate-at g (r .plan .n) i nobody (subst (λ n. i < n) (a .n) l) in
+        subst (λ x. SameBoard x (boardAt (tabulate g 0 (r .plan .n)) i)) (sym here) (subst (λ y. SameBoard (f i) y) (sym there) (same i l))
+
+  pub kin-session : (j : ℕ) → AllKin (session s liars j) (session r liars j)
+  unfolding session begun hearAll
+  kin-session zero =
+      kin-tabulate (begun s) (begun r)
+      (λ i l. subst (λ cells. SameBoard (beginning (s .plan) i (s .buffer i) .board) (beginning (r .plan) i cells .board)) (ap (λ f. f i) buffer)
+      (kin-begins (s .plan) (r .plan) a i (s .buffer i)))
+  kin-session (suc j) =
+      let w = session s liars j in
+      let v = session r liars j in
+      kin-tabulate (λ i. closing (hearAll s liars w i j (s .plan .n)) .board) (λ i. closing (hearAll r liars v i j (r .plan .n)) .board)
+      (λ i l. kin-closes (s .plan) (r .plan) a (hearAll s liars w i j (s .plan .n)) (hearAll r liars v i j (r .plan .n)) (heard w v (kin-session j) i j l))
+    where
+      heard : (w v : Boards) → AllKin w v → (i j : ℕ) → i < s .plan .n → SameBoard (hearAll s liars w i j (s .plan .n)) (hearAll r liars v i j (r .plan .n))
+      heard w v kin i j l =
+          subst (λ n. SameBoard (takeAll (hears s liars w i j) (boardAt w i) (s .plan .n)) (takeAll (hears r liars v i j) (boardAt v i) n)) (a .n)
+          (kin-take-all (hears s liars w i j) (hears r liars v i j) (boardAt w i) (boardAt v i) (s .plan .n) (kin-hears w v kin i j) (kin i l))
+
+-- What is printed and left of a board.
+pub record SameFields (b c : Board) : Type 0 where
+  pub decision : b .rec .decision ≡ c .rec .decision
+  pub list : b .rec .list ≡ c .rec .list
+  pub cells : b .cells ≡ c .cells
+
+pub kin-fields : (p q : Plan) (b c : Board) → Kin p q b c → SameFields b c
+kin-fields p q b c =
+    ⊎-elim
+    (λ k. record {
+      decision = sym (ap (λ (x : Board). x .rec .decision) (k .1));
+      list = sym (ap (λ (x : Board). x .rec .list) (k .1));
+      cells = sym (ap (λ (x : Board). x .cells) (k .1));
+    })
+    (λ k. record {
+      decision = sym (ap (λ (x : Board). x .rec .decision) (k .0));
+      list = sym (ap (λ (x : Board). x .rec .list) (k .0));
+      cells = sym (ap (λ (x : Board). x .cells) (k .0));
+    })

@@ -1,0 +1,4 @@
+pub mod Numbers
+pub mod AsZero
+pub mod Fairness
+pub mod SheetText

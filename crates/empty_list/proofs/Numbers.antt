@@ -1,0 +1,198 @@
+-- No call answers with number 2: none of the tests that a call makes has it.
+-- Assumes nothing.
+use Prim.Native.Nat.{ℕ, suc}
+use mathlib.Core.Path.{_≡_, refl, sym, subst}
+use mathlib.Core.Logic.{_≢_}
+use mathlib.Core.Bool.{Bool, true, false, not, _&&_, _||_, cond}
+use mathlib.Core.List.{List, [], _∷_}
+use mathlib.Core.Option.{Option, some, none}
+use native.Mathlib.Omega.{arith}
+use lib.Dec.{eqb, leb, ltb}
+use lib.ListN.{length}
+use borrow.Author.Tests.{eqb-true, eqb-false}
+use Rattle.codec.specs.Codec.{encode}
+use Rattle.sets.specs.Search.{any}
+use Rattle.sets.specs.Sets.{member, within, boards}
+use Rattle.sets.specs.Structure.{tolerated}
+use Rattle.sets.proofs.Tests.{cases}
+use Rattle.refusals.specs.Outcome.{Outcome, taken, refused, refusedAt, andThen}
+use Rattle.covering.specs.Cover.{covered, places, covering}
+use Rattle.admission.specs.Calls.{strays, admitting}
+use Rattle.settings.specs.declared.settings.Settings.{Settings}
+use Rattle.settings.specs.Planning.{isDepth, judgeSettings, planning}
+use Rattle.plan.specs.declared.plan.Plan.{Plan}
+use Rattle.plan.specs.Listed.{listed}
+use Rattle.plan.specs.Calls.{judged, settingsOf}
+use Rattle.tree.specs.Places.{cellCount}
+use Rattle.protocol.specs.declared.records.Record.{Record}
+use Rattle.protocol.specs.Limits.{sheetMost, outputNeeded, cellsNeeded}
+use Rattle.protocol.specs.Nodes.{due}
+use Rattle.protocol.specs.Rounds.{Board, close}
+use Rattle.protocol.specs.Calls.{judgeNumber, judgeOther, judgeBoard, judgeCells, goodRecord, judgeRecord, judgeOpen, judgeBeginning, beginning, dealing, judgeReceiving, taking, receiving, wireOf, judgeSending, sending, closedValues, closing, deciding}
+use Rattle.sheet.specs.declared.head.Head.{Head}
+use Rattle.sheet.specs.Sheet.{Line, lines, lineBytes, headLength, headBoards, headCount, headSets, headSettings, headFaulty, headWord, headOf, Frame, frameLine, goodFrame, Reading, readFrames, addFrame, judgeHead, readHead, readLines, reading, refusedReading, wrongAt}
+use Rattle.sheet.specs.Playing.{Play, refusedPlay, playHead, playing}
+use Rattle.sheet.proofs.Sheets.{frames-text, frames-wrong, frames-right, head-right, head-wrong, lines-text, lines-head}
+use Rattle.empty_list.specs.Number2.{NeverTwo}
+
+-- An answer without number 2.
+abbrev Other : Outcome → Type 0
+Other o = o .number ≢ 2
+
+-- An answer by a test.
+either : (b : Bool) (x y : Outcome) → Other x → Other y → Other (cond b x y)
+either true x y u v = u
+either false x y u v = v
+
+in-order : (x y : Outcome) → Other x → Other y → Other (andThen x y)
+unfolding andThen
+in-order x y u v = either (eqb (x .number) 0) y x v u
+
+admits : (n count : ℕ) (sets : List ℕ) → Other (admitting n count sets)
+unfolding admitting covering
+admits n count sets =
+    either (eqb n 0 || ltb 7 n) (refused 1) _ (omega arith)
+    (either (ltb 32 count) (refused 3) _ (omega arith)
+    (either (strays n sets) (refused 4) _ (omega arith)
+    (either (covered n sets) (refusedAt (places n sets)) (taken []) (omega arith) (omega arith))))
+
+plans : (n count : ℕ) (sets : List ℕ) (s : Settings) → Other (planning n count sets s)
+unfolding planning judgeSettings
+plans n count sets s =
+    in-order (admitting n count sets) _ (admits n count sets)
+    (either (leb n (s .dealer)) (refused 6) _ (omega arith)
+    (either (ltb (s .span) 2) (refused 7) _ (omega arith)
+    (either (not (isDepth (s .depth))) (refused 8) (taken []) (omega arith) (omega arith))))
+
+judges : (p : Plan) → Other (judged p)
+unfolding judged
+judges p = plans (p .n) (p .count) (listed p) (settingsOf p)
+
+judges-cells : (p : Plan) (cells : List ℕ) → Other (judgeCells p cells)
+unfolding judgeCells
+judges-cells p cells = either (ltb (length cells) (cellCount (p .n))) (refused 11) (taken []) (omega arith) (omega arith)
+
+judges-record : (r : Record) → Other (judgeRecord r)
+unfolding judgeRecord
+judges-record r = either (goodRecord r) (taken []) (refused 12) (omega arith) (omega arith)
+
+opens : (b : Board) → Other (judgeOpen b)
+unfolding judgeOpen
+opens b =
+    in-order (judgeRecord (b .rec)) _ (judges-record (b .rec))
+    (in-order (judgeCells (b .rec .plan) (b .cells)) _ (judges-cells (b .rec .plan) (b .cells))
+    (either (b .rec .decided) (refused 13) (taken []) (omega arith) (omega arith)))
+
+begins : (p : Plan) (i : ℕ) (cells : List ℕ) → Other (beginning p i cells .answer)
+unfolding beginning judgeBeginning judgeBoard judgeNumber judgeOther
+begins p i cells =
+    in-order (judged p) _ (judges p)
+    (in-order (judgeBoard p i) (judgeCells p cells)
+    (in-order (judgeNumber p i) (judgeOther p i)
+    (either (leb (p .n) i) (refused 9) (taken []) (omega arith) (omega arith))
+    (either (eqb i (p .dealer)) (refused 10) (taken []) (omega arith) (omega arith)))
+    (judges-cells p cells))
+
+deals : (p : Plan) (v : ℕ) → Other (dealing p v)
+unfolding dealing
+deals p v = in-order (judged p) _ (judges p) (either (leb (p .span) v) (refused 18) (taken (encode (v ∷ []))) (omega arith) (omega arith))
+
+receives : (b : Board) (q : ℕ) (f : List ℕ) → Other (receiving b q f .answer)
+unfolding receiving taking judgeReceiving
+receives b q f =
+    let r = b .rec in
+    in-order (judgeOpen b) _ (opens b)
+    (either (due (r .plan) q (r .board) (r .round)) _ (refused 14) (either (member q (r .marks)) (refused 15) (taken []) (omega arith) (omega arith)) (omega arith))
+
+sends : (b : Board) (out : List ℕ) → Other (sending b out .answer)
+unfolding sending judgeSending
+sends b out =
+    let r = b .rec in
+    let size = length (wireOf b) in
+    in-order (judgeOpen b) _ (opens b)
+    (either (any (λ i. due (r .plan) (r .board) i (r .round)) (r .plan .n)) _ (refused 16)
+    (either (ltb (length out) size) (refused 17) (taken (size ∷ [])) (omega arith) (omega arith)) (omega arith))
+
+closes : (b : Board) → Other (closing b .answer)
+unfolding closing
+closes b = in-order (judgeOpen b) (taken (closedValues (close b .rec))) (opens b) (omega arith)
+
+decides : (r : Record) → Other (deciding r)
+unfolding deciding
+decides r = in-order (judgeRecord r) _ (judges-record r) (either (r .decided) (taken (r .decision ∷ [])) (refused 19) (omega arith) (omega arith))
+
+-- A sheet, line by line.
+abbrev Read : Reading → Type 0
+Read r = Other (r .answer)
+
+frames : (h : Head) (before : Option Frame) (line : ℕ) (ls : List Line) → Read (readFrames h before line ls)
+unfolding readFrames refusedReading wrongAt addFrame
+frames h before line [] = omega arith
+frames h before line (l ∷ ls) = go (λ f. frames h (some f) (suc line) ls) (lineBytes l) refl
+  where
+    go : ((f : Frame) → Read (readFrames h (some f) (suc line) ls)) → (o : Option (List ℕ)) → lineBytes l ≡ o → Read (readFrames h before line (l ∷ ls))
+    go ih none e = subst Read (sym (frames-text h before line l ls e)) (omega arith)
+    go ih (some bytes) e =
+        cases (goodFrame h before bytes)
+        (λ b. subst Read (sym (frames-right h before line l ls bytes e b)) (ih (frameLine bytes)))
+        (λ b. subst Read (sym (frames-wrong h before line l ls bytes e b)) (omega arith))
+
+heads : (bytes : List ℕ) → Other (judgeHead bytes)
+unfolding judgeHead
+heads bytes =
+    let n = headBoards bytes in
+    let sets = headSets bytes in
+    let settings = headSettings bytes in
+    let f = headFaulty bytes in
+    let short = ltb (length bytes) (headLength 0) || not (eqb (length bytes) (headLength (headCount bytes))) in
+    let word = cond (leb (settings .span) (headWord bytes)) (refused 18) (taken []) in
+    let faulty = cond (within f (boards n) && tolerated sets f) (taken []) (refused 23) in
+    let plan = planning n (headCount bytes) sets settings in
+    either short (refused 22) (andThen plan (andThen word faulty)) (omega arith)
+    (in-order plan (andThen word faulty) (plans n (headCount bytes) sets settings)
+    (in-order word faulty
+    (either (leb (settings .span) (headWord bytes)) (refused 18) (taken []) (omega arith) (omega arith))
+    (either (within f (boards n) && tolerated sets f) (taken []) (refused 23) (omega arith) (omega arith))))
+
+reads-head : (bytes : List ℕ) (ls : List Line) → Read (readHead bytes ls)
+unfolding refusedReading wrongAt
+reads-head bytes ls =
+    cases (eqb (judgeHead bytes .number) 0)
+    (λ e. subst Read (sym (head-right bytes ls (eqb-true (judgeHead bytes .number) 0 e))) (frames (headOf bytes) none 2 ls))
+    (λ e. subst Read (sym (head-wrong bytes ls (eqb-false (judgeHead bytes .number) 0 e))) (heads bytes))
+
+reads-lines : (ls : List Line) → Read (readLines ls)
+unfolding readLines refusedReading wrongAt
+reads-lines [] = omega arith
+reads-lines (l ∷ ls) = go (lineBytes l) refl
+  where
+    go : (o : Option (List ℕ)) → lineBytes l ≡ o → Read (readLines (l ∷ ls))
+    go none e = subst Read (sym (lines-text l ls e)) (omega arith)
+    go (some bytes) e = subst Read (sym (lines-head l ls bytes e)) (reads-head bytes ls)
+
+-- An answer of playing by a test.
+either-play : (b : Bool) (x y : Play) → Other (x .answer) → Other (y .answer) → Other (cond b x y .answer)
+either-play true x y u v = u
+either-play false x y u v = v
+
+plays : (text cells out : List ℕ) → Other (playing text cells out .answer)
+unfolding playing refusedPlay playHead wrongAt reading
+plays text cells out =
+    let r = reading text in
+    either-play (ltb sheetMost (length text)) (refusedPlay (wrongAt 0 (refused 20)) cells out) _ (omega arith)
+    (either-play (ltb (length out) outputNeeded) (refusedPlay (wrongAt 0 (refused 17)) cells out) _ (omega arith)
+    (either-play (ltb (length cells) cellsNeeded) (refusedPlay (wrongAt 0 (refused 11)) cells out) _ (omega arith)
+    (either-play (eqb (r .answer .number) 0) (playHead (r .head) (r .frames) cells out) (refusedPlay (r .answer) cells out) (omega arith) (reads-lines (lines text)))))
+
+pub never-two : NeverTwo
+never-two = record {
+  admitting = admits;
+  planning = plans;
+  beginning = begins;
+  dealing = deals;
+  receiving = receives;
+  sending = sends;
+  closing = closes;
+  deciding = decides;
+  playing = plays;
+}

@@ -1,0 +1,3 @@
+pub mod Empty
+pub mod Number2
+pub mod Sheets
