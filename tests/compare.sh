@@ -1,7 +1,9 @@
 #!/bin/sh
 # Runs the tests of the second implementation, then compares it with bench on made sheets and on the corpus.
-# It fails on any difference, if a refusal number or a kind of unequal roots was not met, and on unequal roots where
-# none are possible. `compare.sh COUNT SEED` plays other sheets; the first line printed has the seed.
+# A sheet with no sets is played with the one set 00 too, and must print the same.
+# It fails on any difference, on a number that no sheet can meet, on unequal roots where none are possible, and if a
+# refusal number, a kind of unequal roots or an accepted sheet with no sets was not met.
+# `compare.sh COUNT SEED` plays other sheets; the first line printed has the seed.
 set -eu
 cd "$(dirname "$0")/.."
 sh tests/second/build

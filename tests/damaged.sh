@@ -44,6 +44,7 @@ hurt byte-00 $long tr 5 '\000'
 hurt byte-FF $deep tr 7 '\377'
 hurt more-values $deep sed '3,8s/$/FFFEFD00FF0102030405060708090A0B0C0D0E0F/'
 hurt no-sets $deep sed '1s/.*/07020004000000/'
+hurt no-sets-no-frames $deep sed -n '1s/.*/07020004000000/p'
 hurt many-sets $deep sh -c 'printf 0702000400FF; head -c 512 /dev/zero | tr "\0" 0; echo; tail -n +2'
 hurt eight-boards $deep sed '1s/^07/08/'
 hurt nonsense $deep head -c 3000 target/bin/bench

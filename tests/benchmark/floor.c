@@ -325,8 +325,6 @@ static int judge_head(const uint8_t *head, int count)
     if (n == 0 || n > BOARDS)
         return 1;
     all = (1 << n) - 1;
-    if (set_count == 0)
-        return 2;
     if (set_count > SETS)
         return 3;
     for (int i = 0; i < set_count; i++)

@@ -73,7 +73,7 @@ fn plan(rng: &mut Prng) -> Plan {
     }
 }
 
-/// A list of sets of which no three cover all boards.
+/// A list of sets of which no three cover all boards, at times empty.
 fn sets(n: u8, rng: &mut Prng) -> Vec<Set> {
     let mut sets = match rng.below(8) {
         0 | 1 => threshold(n),
@@ -96,15 +96,11 @@ fn sets(n: u8, rng: &mut Prng) -> Vec<Set> {
         }
         let mut longer = sets.clone();
         longer.insert(rng.below(sets.len() + 1), set);
-        if longer.len() <= wanted.max(1) && admit(n, &longer).is_ok() {
+        if longer.len() <= wanted && admit(n, &longer).is_ok() {
             sets = longer;
         }
     }
-    if sets.is_empty() {
-        vec![0]
-    } else {
-        sets
-    }
+    sets
 }
 
 /// All sets of fewer than a third of the boards.
@@ -124,9 +120,12 @@ fn two_sided(n: u8, rng: &mut Prng) -> Vec<Set> {
     sets
 }
 
-/// A tolerated set of faulty boards, often a whole listed set.
+/// A tolerated set of faulty boards, often a whole listed set; the empty set if none is listed.
 fn faulty(plan: &Plan, rng: &mut Prng) -> Set {
     let sets = &plan.sets;
+    if sets.is_empty() {
+        return 0;
+    }
     let holding: Vec<Set> = sets
         .iter()
         .copied()
@@ -244,7 +243,7 @@ impl Adversary for Liar<'_> {
 
 // Damage
 
-/// A sheet whose head meets one of 22, 1 to 8, 18 and 23, or more than one.
+/// A sheet with another head: it meets one of 22, 1, 3 to 8, 18 and 23, or more than one, or has no sets.
 fn bad_head(rng: &mut Prng) -> Vec<u8> {
     let sheet = good(rng);
     let mut lines = sheet.lines();
@@ -266,7 +265,12 @@ fn hurt_head(head: &mut Vec<u8>, plan: &Plan, rng: &mut Prng) {
         2 if last > 2 => head[2] = plan.n + rng.below(3) as u8,
         3 if last > 3 => head[3] = rng.pick(&[1, 2, 3, 8, 9, 128, 132, 255]),
         4 if last > 4 => head[4] = head[1].saturating_add(rng.below(3) as u8),
-        5 => swap_sets(head, &[]),
+        5 => {
+            swap_sets(head, &[]);
+            if rng.chance(1, 2) {
+                *head.last_mut().unwrap() = 0;
+            }
+        }
         6 => swap_sets(head, &vec![0; 33 + rng.below(3)]),
         7 => swap_sets(head, &vec![rng.byte(); 1 + rng.below(3)]),
         8 => swap_sets(head, &covering(plan.n, rng)),

@@ -97,7 +97,8 @@ impl Plan {
     }
 }
 
-/// Judges a list of sets; 5 comes without its places, which `first_cover` gives.
+/// Judges a list of sets; 5 comes without its places, which `first_cover` gives. An empty list is admitted, and only the
+/// empty set is tolerated then.
 pub fn admit(n: u8, sets: &[Set]) -> Result<(), u8> {
     admit_with(n, sets, None)
 }
@@ -105,8 +106,6 @@ pub fn admit(n: u8, sets: &[Set]) -> Result<(), u8> {
 fn admit_with(n: u8, sets: &[Set], mistake: Option<Mistake>) -> Result<(), u8> {
     if n == 0 || n > 7 {
         Err(1)
-    } else if sets.is_empty() {
-        Err(2)
     } else if sets.len() > 32 {
         Err(3)
     } else if sets.iter().any(|s| s & !all(n) != 0) {

@@ -180,6 +180,13 @@ impl Sheet {
     }
 }
 
+/// A sheet with s = 00, good or not, with the one set 00 in its stead; nothing for others and if that is too long.
+pub fn with_set_00(text: &[u8]) -> Option<Vec<u8>> {
+    let no_sets = text.get(10..12)? == b"00" && !text[..10].contains(&b'\n');
+    let longer = [&text[..10], b"0100", &text[12..]].concat();
+    (no_sets && longer.len() <= LONGEST).then_some(longer)
+}
+
 /// Lines as hexadecimal text.
 pub fn write(lines: &[Vec<u8>]) -> Vec<u8> {
     let mut text = String::new();

@@ -4,8 +4,8 @@ use crate::session::Outcome;
 use crate::sheet::Refusal;
 use std::collections::BTreeMap;
 
-/// The refusals that a sheet can meet.
-pub const NUMBERS: [u8; 14] = [1, 2, 3, 4, 5, 6, 7, 8, 18, 20, 21, 22, 23, 24];
+/// The refusals that a sheet can meet, rising.
+pub const NUMBERS: [u8; 13] = [1, 3, 4, 5, 6, 7, 8, 18, 20, 21, 22, 23, 24];
 
 /// Depth, boards and run after which roots can still be unequal.
 pub const SPLITS: [(u8, u8, usize); 4] = [(4, 6, 1), (4, 7, 1), (5, 7, 1), (4, 7, 2)];
@@ -16,6 +16,8 @@ pub struct Tally {
     pub accepted: usize,
     /// Unequal roots where none are possible.
     pub impossible: usize,
+    /// Accepted sheets with no sets, by their boards.
+    no_sets: BTreeMap<u8, usize>,
     refused: BTreeMap<u8, usize>,
     split: BTreeMap<(u8, u8, usize), usize>,
 }
@@ -31,6 +33,9 @@ impl Tally {
 
     fn count_accepted(&mut self, outcome: &Outcome) {
         self.accepted += 1;
+        if outcome.plan.sets.is_empty() {
+            *self.no_sets.entry(outcome.plan.n).or_default() += 1;
+        }
         for run in (1..=outcome.roots.len()).filter(|r| outcome.unequal_after(*r)) {
             let key = (outcome.plan.depth, outcome.plan.n, run);
             *self.split.entry(key).or_default() += 1;
@@ -44,31 +49,27 @@ impl Tally {
         self.sheets += other.sheets;
         self.accepted += other.accepted;
         self.impossible += other.impossible;
-        other
-            .refused
-            .into_iter()
-            .for_each(|(k, c)| *self.refused.entry(k).or_default() += c);
-        other
-            .split
-            .into_iter()
-            .for_each(|(k, c)| *self.split.entry(k).or_default() += c);
+        join(&mut self.no_sets, other.no_sets);
+        join(&mut self.refused, other.refused);
+        join(&mut self.split, other.split);
     }
 
-    /// Whether every number and every kind of unequal roots was met, and no impossible one.
+    /// Whether every number, every kind of unequal roots and an accepted sheet with no sets were met, and no other
+    /// number and no impossible roots.
     pub fn full(&self) -> bool {
-        NUMBERS.iter().all(|n| self.refused.contains_key(n))
+        self.refused.keys().eq(&NUMBERS)
             && SPLITS.iter().all(|s| self.split.contains_key(s))
+            && !self.no_sets.is_empty()
             && self.impossible == 0
     }
 
     pub fn print(&self) {
         println!("sheets {}, accepted {}", self.sheets, self.accepted);
-        let count = |n: &u8| self.refused.get(n).copied().unwrap_or(0);
-        let numbers: Vec<String> = NUMBERS
-            .iter()
-            .map(|n| format!("{n}: {}", count(n)))
-            .collect();
-        println!("refusals  {}", numbers.join(", "));
+        let boards = counts(1..=7, &self.no_sets);
+        println!("accepted with no sets, by n  {boards}");
+        let met = |n: &u8| NUMBERS.contains(n) || self.refused.contains_key(n);
+        let numbers = counts((0..=u8::MAX).filter(met), &self.refused);
+        println!("refusals  {numbers}");
         for key in SPLITS {
             let (b, n, run) = key;
             let count = self.split.get(&key).copied().unwrap_or(0);
@@ -76,4 +77,17 @@ impl Tally {
         }
         println!("unequal roots where none are possible: {}", self.impossible);
     }
+}
+
+/// Adds counts to others.
+fn join<K: Ord>(to: &mut BTreeMap<K, usize>, from: BTreeMap<K, usize>) {
+    from.into_iter()
+        .for_each(|(k, c)| *to.entry(k).or_default() += c);
+}
+
+/// The counts of some keys as text.
+fn counts(keys: impl Iterator<Item = u8>, among: &BTreeMap<u8, usize>) -> String {
+    let count = |k: u8| among.get(&k).copied().unwrap_or(0);
+    let texts: Vec<String> = keys.map(|k| format!("{k}: {}", count(k))).collect();
+    texts.join(", ")
 }

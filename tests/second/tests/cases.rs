@@ -106,6 +106,24 @@ fn case_10_span() {
 }
 
 #[test]
+fn no_sets() {
+    assert_eq!((admit(4, &[]), first_cover(4, &[])), (Ok(()), None));
+    let plan = plan(7, &[], 0, 4);
+    assert_eq!((plan.height(), plan.runs(), plan.rounds()), (1, 1, 1));
+    let tolerated: Vec<u8> = (0..=255).filter(|s| plan.tolerated(*s)).collect();
+    assert_eq!(tolerated, [0]);
+    prints("04100000050000\n", "000500\n010500\n020500\n030500\n");
+    prints("01100000050000\n", "000500\n");
+    prints("00100000050000\n", "FF010001\n");
+    prints("04100400050000\n", "FF060001\n");
+    prints("041000000500\n", "FF160001\n");
+    prints("0410000005000000\n", "FF160001\n");
+    prints("04100000050001\n", "FF170001\n");
+    prints("04100000050010\n", "FF170001\n");
+    prints("04100000050000\n0101000105\n", "FF180002\n");
+}
+
+#[test]
 fn refusals_and_lines() {
     let head = "0410000005040102040801\n";
     let with = |rest: &str| format!("{head}{rest}");

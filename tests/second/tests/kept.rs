@@ -1,8 +1,11 @@
 //! The corpus shows what it is kept for, and made sheets keep the promises.
 
 use second::plan::{has, set_of};
+use second::sheet::Refusal;
+use second::shrink::shrink;
 use second::tally::{Tally, NUMBERS, SPLITS};
-use second::{bench_with, corpus, make, play, print, sheet, Mistake};
+use second::{bench, bench_with, corpus, make, play, print, sheet, Mistake, Outcome, Sheet};
+use std::collections::BTreeSet;
 
 #[test]
 fn corpus_names_hold() {
@@ -17,6 +20,8 @@ fn corpus_names_hold() {
             ),
             _ => assert!(result.is_ok(), "{name}"),
         }
+        let no_sets = sheet::with_set_00(&text).is_some();
+        assert!(!name.contains("empty-list") || no_sets, "{name}");
         let told: Vec<String> = Mistake::told_by(&text)
             .iter()
             .map(|m| format!("mistake-{m:?}"))
@@ -49,12 +54,21 @@ fn corpus_covers_by_one_two_and_three() {
 
 #[test]
 fn corpus_meets_all_but_the_longest() {
-    let mut tally = Tally::default();
-    corpus::load()
-        .iter()
-        .for_each(|(_, s)| tally.count(&play(s, None)));
-    tally.count(&play(&vec![b'0'; 65_537], None));
-    assert!(tally.full(), "numbers {NUMBERS:?}, splits {SPLITS:?}");
+    let tally = |without: &str| {
+        let mut tally = Tally::default();
+        let kept = corpus::load().into_iter();
+        kept.filter(|(name, _)| without.is_empty() || !name.starts_with(without))
+            .for_each(|(_, s)| tally.count(&play(&s, None)));
+        tally.count(&play(&vec![b'0'; 65_537], None));
+        tally
+    };
+    let mut all = tally("");
+    assert!(all.full(), "numbers {NUMBERS:?}, splits {SPLITS:?}");
+    for asked in ["refusal-03", "unequal-b5-n7", "empty-list"] {
+        assert!(!tally(asked).full(), "{asked}");
+    }
+    all.count(&Err(Refusal { number: 2, line: 1 }));
+    assert!(!all.full(), "number 2 is free");
 }
 
 #[test]
@@ -74,6 +88,50 @@ fn made_sheets_agree_and_list_only_faulty_boards() {
         let hidden = Mistake::ALL.into_iter().filter(|m| m.hidden());
         hidden.for_each(|m| assert_eq!(bench_with(&text, m), print(&play(&text, None))));
     }
+}
+
+/// With no sets a sheet prints what it prints with the one set 00. Made ones meet every number that such a sheet can meet
+/// and no other; accepted ones have every number of boards, dealer and depth.
+#[test]
+fn made_sheets_with_no_sets() {
+    let (mut numbers, mut dealers) = (BTreeSet::new(), BTreeSet::new());
+    let mut depths = BTreeSet::new();
+    for seed in 0..20_000 {
+        let text = make::sheet(seed);
+        let Some(other) = sheet::with_set_00(&text) else {
+            continue;
+        };
+        let result = play(&text, None);
+        assert_eq!(print(&result), bench(&other), "seed {seed}");
+        match result {
+            Err(refusal) => drop(numbers.insert(refusal.number)),
+            Ok(outcome) => {
+                decided_at_once(&sheet::read(&text).unwrap(), &outcome, seed);
+                dealers.insert((outcome.plan.n, outcome.plan.dealer));
+                depths.insert(outcome.plan.depth);
+            }
+        }
+    }
+    assert_eq!(Vec::from_iter(numbers), [1, 6, 7, 8, 18, 21, 22, 23, 24]);
+    assert_eq!(dealers.len(), (1..=7).sum::<usize>());
+    assert_eq!(Vec::from_iter(depths), [0, 4, 5, 6, 7]);
+}
+
+/// F is empty, there is one round, and every board decides the dealer's value.
+fn decided_at_once(sheet: &Sheet, outcome: &Outcome, seed: u64) {
+    let decided: Vec<_> = (0..sheet.plan.n).map(|b| (b, sheet.value, 0)).collect();
+    assert_eq!((sheet.faulty, sheet.frames.len()), (0, 0), "seed {seed}");
+    assert_eq!((sheet.plan.runs(), sheet.plan.rounds()), (1, 1));
+    assert_eq!(outcome.decided, decided, "seed {seed}");
+}
+
+/// A sheet that need not show anything is made smaller down to no sets.
+#[test]
+fn shrinking_ends_with_no_sets() {
+    let kept = corpus::load();
+    let (_, text) = kept.iter().find(|(name, _)| name == "case-7").unwrap();
+    let small = shrink(sheet::read(text).unwrap(), &|_| true);
+    assert_eq!(small.write(), b"04020000000000\n");
 }
 
 /// Roots that differ in a full tree, or with too few faulty boards, are counted as impossible.
@@ -106,7 +164,7 @@ fn impossible_roots_are_counted() {
 }
 
 /// Unequal roots after run t mean t (b - 3) + 1 boards on every list.
-fn detected_while_unequal(outcome: &second::Outcome, seed: u64) {
+fn detected_while_unequal(outcome: &Outcome, seed: u64) {
     for run in (1..=outcome.roots.len()).filter(|r| outcome.unequal_after(*r)) {
         let common = outcome.lists[run - 1].iter().fold(!0, |all, l| all & l);
         let least = run * (outcome.plan.depth as usize - 3) + 1;

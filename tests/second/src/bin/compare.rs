@@ -1,10 +1,13 @@
 //! compare PATH_TO_BENCH COUNT SEED   plays made sheets and the corpus with both implementations
 //!
+//! A sheet with no sets is played with the one set 00 as well, and must print the same.
 //! A made sheet is told by its own seed, which `sheets` takes; COUNT and SEED repeat the whole.
 
+use second::sheet::with_set_00;
 use second::tally::Tally;
 use second::{corpus, make, play, print};
 use std::io::{Read, Write};
+use std::iter;
 use std::process::{exit, Child, Command, Stdio};
 use std::sync::{mpsc, Mutex};
 use std::thread;
@@ -63,11 +66,14 @@ fn compare_all(path: &str, sheets: impl Iterator<Item = Named>) -> (Tally, usize
         if tally.impossible > before {
             println!("unequal roots where none are possible: {name}");
         }
-        let (ours, theirs) = (print(&result), run_program(path, &sheet));
-        if ours != theirs {
-            differences += 1;
-            if differences <= 5 {
-                report(&name, &sheet, &ours, &theirs);
+        let (ours, other) = (print(&result), with_set_00(&sheet));
+        for text in iter::once(&sheet).chain(&other) {
+            let theirs = run_program(path, text);
+            if ours != theirs {
+                differences += 1;
+                if differences <= 5 {
+                    report(&name, text, &ours, &theirs);
+                }
             }
         }
     }
