@@ -12,7 +12,6 @@ use Rattle.tree.specs.Places.{cellCount}
 use Rattle.tree.specs.Cells.{blank}
 use Rattle.protocol.specs.Detection.{resolveRoot}
 use Rattle.protocol.specs.Rounds.{rootOnly}
-use Rattle.protocol.proofs.Judgement.{plan-facts}
 use Rattle.resolving.specs.Contracts.{Convertible}
 use Rattle.conversion.specs.Contracts.{Converts}
 use Rattle.resolving.proofs.Cells.{all-drop}
@@ -32,7 +31,6 @@ convertible {p} s most room = record {
   some-round = omega (arith, s .round-low, s .round-high);
   most-rounds = s .rounds-most;
   table = s .table;
-  some-value = omega (arith, plan-facts p (s .accepted) .two-values);
   most-values = most;
   room = room;
 }

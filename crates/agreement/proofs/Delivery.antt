@@ -35,7 +35,7 @@ use Rattle.protocol.specs.declared.records.Record.{Record}
 use Rattle.protocol.proofs.Nodes.{sent-same, sent-has, inner-inv, node-label}
 use Rattle.protocol.proofs.Fill.{IsLabel}
 use Rattle.synchronous.proofs.Local.{detect-outside}
-use Rattle.protocol.proofs.Judgement.{plan-facts, Good, good-dealer}
+use Rattle.protocol.proofs.Judgement.{plan-facts, plan-default, Good, good-dealer}
 use Rattle.protocol.proofs.Bounds.{read-small}
 use Rattle.synchronous.proofs.Reached.{other-level}
 use Rattle.synchronous.proofs.Hearing.{filled, filled-outside, delivered, copied}
@@ -135,7 +135,7 @@ module _ (s : Setting) (a : Adversary) (sound : Sound s) where
         let (lq, fq, nq) = keeper-facts s a sound q kq in
         let (li, fi, ni) = keeper-facts s a sound i ki in
         let k = stepRound plan (suc j) in
-        let two = plan-facts plan (sound .accepted) .two-values in
+        let default-below = plan-default plan (sound .accepted) in
         cases (eqb q i)
         (λ x. let z = eqb-true q i x in
         let w : List·Memᴰ α (sent plan i i k) =
@@ -144,11 +144,11 @@ module _ (s : Setting) (a : Adversary) (sound : Sound s) where
         let here = node-label plan i (suc e) α (inner-inv plan i (suc e) α m .0) in
         subst (λ y. read plan stored-cells (y ∷ α) ≡ read plan (at s a j y .cells) α) (sym z)
         (copied rec rec-good refl (told s a i j) (at s a j i .cells) (st .room) α (suc e) w here
-        (λ y. let b = other-level plan (good-dealer rec rec-good) i (suc e) (k .0) α here y in let c : ⊥ = omega arith in c) (omega arith)))
+        (λ y. let b = other-level plan (good-dealer rec rec-good) i (suc e) (k .0) α here y in let c : ⊥ = omega arith in c) default-below))
         (λ x. let ne : q ≢ i = eqb-false q i x in
         let (w, d) = is-due q i e k α lq li ne ni ek m a-out in
         delivered rec rec-good refl (told s a i j) (at s a j i .cells) (st .room) q α lq w (read plan (at s a j q .cells)) ne d out
-        (told-frame j i q kq l) (read-small plan (omega arith) (at s a j q .cells) α))
+        (told-frame j i q kq l) (read-small plan default-below (at s a j q .cells) α))
 
     -- Cells of other levels than the round's stay in this step.
     pub scanned-other : (b : ℕ) (γ : Label) → IsLabel plan (good-dealer rec rec-good) b γ → b ≢ stepRound plan (suc j) .0

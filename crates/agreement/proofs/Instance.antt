@@ -32,8 +32,7 @@ use Rattle.protocol.proofs.Nodes.{no-node, root-node, node-root, node-has, node
 use Rattle.sets.specs.Tabulate.{tabulate}
 use Rattle.sets.proofs.Tabulated.{tabulate-at}
 use Rattle.protocol.specs.Detection.{vote, resolve}
-use Rattle.protocol.proofs.Judgement.{plan-facts}
-use Rattle.protocol.proofs.Bounds.{default-small}
+use Rattle.protocol.proofs.Judgement.{plan-facts, plan-default}
 use Rattle.protocol.specs.Listing.{asSet}
 use Rattle.protocol.proofs.Tolerance.{tol, tol-mono, tol-q3, tol-path, setOf-same}
 
@@ -99,7 +98,7 @@ inst-good p F e lF tF =
     good (inst p)
     (λ i k α N t. tol-path p α (node-below p (f .dealer-below) N) ∙ internal-tol p i α t)
     (λ i k α N t out. internal-has p i α (sym (tol-path p α (node-below p (f .dealer-below) N)) ∙ t) (omega (arith, node-level p N)) out)
-    (λ i. member i F) (default-small p (omega (arith, f .two-values))) (f .dealer-below) (tol-mono p) (tol-q3 p e)
+    (λ i. member i F) (plan-default p e) (f .dealer-below) (tol-mono p) (tol-q3 p e)
     (tolerated-mono (listed p) (p .n) (setOf (λ i. member i F) (p .n)) F (setOf-below (λ i. member i F) (p .n))
     (λ i l m. and-r (ltb i (p .n)) (member i F) (sym (member-setOf (λ i. member i F) (p .n) i) ∙ m)) tF)
 

@@ -35,7 +35,7 @@ use Rattle.protocol.specs.Session.{Adversary, Setting, at, takeAll, keeper, Sou
 use Rattle.protocol.specs.Calls.{freshRecord}
 use Rattle.protocol.proofs.Nodes.{inner-moves, inner-inv, inner-has, node-label, node-length, node-root, node-inv, node-has, no-node}
 use Rattle.protocol.proofs.Fill.{IsLabel}
-use Rattle.protocol.proofs.Judgement.{plan-facts}
+use Rattle.protocol.proofs.Judgement.{plan-facts, plan-default}
 use Rattle.protocol.proofs.Bounds.{read-small, root-small}
 use Rattle.synchronous.proofs.Hearing.{stored, filled, filled-length, delivered, value-same}
 use Rattle.synchronous.proofs.Synchronous.{at-start, begun-shape, told, keeper-facts, standing, position, number, heard-all, ready, after-step, close-next, close-last, next-run, more-runs}
@@ -71,8 +71,8 @@ module _ (s : Setting) (a : Adversary) (sound : Sound s) where
         → read plan (at s a j i .cells) (plan .dealer ∷ []) ≡ s .word
 
   module _ (j : ℕ) (l : j < steps plan) (I : Inv j) where
-    pub some-value : 0 < plan .span
-    some-value = omega (arith, plan-facts plan (sound .accepted) .two-values)
+    default-below : default plan < plan .span
+    default-below = plan-default plan (sound .accepted)
 
     pub dealer-below : plan .dealer < plan .n
     dealer-below = plan-facts plan (sound .accepted) .dealer-below
@@ -102,7 +102,7 @@ module _ (s : Setting) (a : Adversary) (sound : Sound s) where
         let nd : r ≢ plan .dealer = λ y. clash on (subst (λ q. occurs q β ≡ false) y r-out) in
         let kr = healthy-keeper s a sound r (record { below = lr; correct = f; keeper = nd }) in (
           read plan (at s a j r .cells) β,
-          read-small plan some-value (at s a j r .cells) β,
+          read-small plan default-below (at s a j r .cells) β,
           λ c C a-out.
               let kc = healthy-keeper s a sound c C in
               stored-healthy s a sound j i ki l c (suc e) α kc (unlisted i c ki (C .below) (C .correct)) ek m a-out
@@ -215,7 +215,7 @@ module _ (s : Setting) (a : Adversary) (sound : Sound s) where
     module _ (end : open-round j ≡ rounds plan .0) where
       pub flow : Flow (inst plan) (listOf F) cell-of
       flow = record {
-        small = λ {p = i} {k} {α} H N. read-small plan some-value (scan-of i .cells) α;
+        small = λ {p = i} {k} {α} H N. read-small plan default-below (scan-of i .cells) α;
         deliver = λ {p = i} {q} {k} {α} H K N inn out. go i q k α H K N inn out;
       }
         where
@@ -246,7 +246,7 @@ module _ (s : Setting) (a : Adversary) (sound : Sound s) where
           let nd : r ≢ plan .dealer = λ y. clash on (subst (λ q. occurs q β ≡ false) y r-out) in
           let kr = healthy-keeper s a sound r (record { below = lr; correct = f; keeper = nd }) in (
             cell-of r β,
-            read-small plan some-value (scan-of r .cells) β,
+            read-small plan default-below (scan-of r .cells) β,
             λ c kc a-out.
                 let above : occurs c β ≡ false = or-r (eqb c r) (occurs c β) (subst (λ y. occurs c y ≡ false) x a-out) in
                 ap (cell-of c) x ∙ cell-deliver c r e β kc kr (inner-moves plan i c (suc e) β w above) r-out (omega arith),
@@ -348,7 +348,7 @@ module _ (s : Setting) (a : Adversary) (sound : Sound s) where
           ∙ ap (λ x. read plan (x .cells) (plan .dealer ∷ [])) (scan-is i ki) ∙ scan-root f i ki)
           (λ x. let ge = ltb-false (open-round j) (rounds plan .0) x in
           ap (λ (b : Board). read plan (b .cells) (plan .dealer ∷ [])) (run-ends i ki ge)
-          ∙ root-read (resolveRoot plan i (scan-of i .cells)) (scan-of i .cells) (root-small plan some-value i (scan-of i .cells))
+          ∙ root-read (resolveRoot plan i (scan-of i .cells)) (scan-of i .cells) (root-small plan default-below i (scan-of i .cells))
           ∙ convert-root (omega (arith, high i ki)) f i ki);
     }
       where

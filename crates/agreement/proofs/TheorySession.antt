@@ -31,7 +31,8 @@ use Rattle.protocol.proofs.Bounds.{root-small}
 use Rattle.agreement.proofs.Instance.{inst, node-mem, node-level, resolve-inst, node-size, listOf}
 use Rattle.agreement.proofs.RuleC.{convert-cells}
 use Rattle.agreement.proofs.Delivery.{healthy-keeper}
-use Rattle.agreement.proofs.Soundness.{open-round, inv, flow, scan-is, scan-lists, scan-root, run-ends, some-value, dealer-below, lists-within, root-read}
+use Rattle.protocol.proofs.Judgement.{plan-default}
+use Rattle.agreement.proofs.Soundness.{open-round, inv, flow, scan-is, scan-lists, scan-root, run-ends, dealer-below, lists-within, root-read}
 use Rattle.agreement.proofs.Runs.{scan, scan-other, lists-grow, run-keeps, round-step, masked, spared-g, spared-c}
 
 module _ (s : Setting) (a : Adversary) (sound : Sound s) where
@@ -146,8 +147,7 @@ module _ (s : Setting) (a : Adversary) (sound : Sound s) where
 
     root-value : roots t i < plan .span
     root-value =
-        let l = in-time t lt in
-        subst (λ x. x < plan .span) (resolved t i) (root-small plan (some-value s a sound (last-step t) l (inv s a sound (last-step t) l)) i (scan s a sound (last-step t) i .cells))
+        subst (λ x. x < plan .span) (resolved t i) (root-small plan (plan-default plan (sound .accepted)) i (scan s a sound (last-step t) i .cells))
 
   pub session : U.Session (inst plan) (listOf F) (runs plan .0) (s .word) cells lists mids
   session = record {

@@ -36,7 +36,7 @@ height-least p q dealer more =
     (height-reached p)
 
 pub itself : (p : Plan) → Alike p p
-itself p = record { n = refl; dealer = refl; span = refl; depth = refl; tolerate = λ s. refl; judged = refl }
+itself p = record { n = refl; dealer = refl; span = refl; default = refl; depth = refl; tolerate = λ s. refl; judged = refl }
 
 module _ (p q : Plan) (a : Alike p q) where
   height-alike : height p ≡ height q
@@ -62,7 +62,7 @@ module _ (p q : Plan) (a : Alike p q) where
 
   pub default-alike : default p ≡ default q
   unfolding default
-  default-alike = refl
+  default-alike = a .default
 
   pub value-alike : (x : ℕ) → value p x ≡ value q x
   unfolding value

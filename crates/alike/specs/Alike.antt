@@ -20,6 +20,7 @@ pub record Alike (p q : Plan) : Type 0 where
   pub n : p .n ≡ q .n
   pub dealer : p .dealer ≡ q .dealer
   pub span : p .span ≡ q .span
+  pub default : p .default ≡ q .default
   pub depth : p .depth ≡ q .depth
   pub tolerate : (a : ℕ) → tolerated (listed p) a ≡ tolerated (listed q) a
   -- planning says the same of both: the same number, and for 5 the same places

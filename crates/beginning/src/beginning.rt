@@ -52,7 +52,7 @@ pub fn void() -> Record
     }
 }
 
-// 1 to 8, then 9, 10, 11.
+// 1 to 7, 26, 8, then 9, 10, 11.
 fn judge_begin(plan: Plan, board: u8, cells: &[Value]) -> Verdict
     ensures { λ v. ⌜ verdict v ≡ judgeBeginning plan board (now (cells .entry)) ⌝ }
 {

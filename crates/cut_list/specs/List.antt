@@ -12,7 +12,7 @@ use Rattle.agreement.specs.Lists.{Call, receives, sends, closes, decides}
 -- Board 2 lent three cells too many.
 unfoldable pub cutSetting : Setting
 cutSetting = record {
-  plan = planOn 6 (58 ∷ 1 ∷ []) (record { dealer = 1; span = 2; depth = 4 });
+  plan = planOn 6 (58 ∷ 1 ∷ []) (record { dealer = 1; span = 2; default = 0; depth = 4 });
   faulty = 58;
   word = 0;
   buffer = λ i. replicate (cond (eqb i 2) 329 326) 7;

@@ -24,7 +24,7 @@ fn judge_value(plan: Plan, value: Value) -> Verdict
     Verdict::Accepted
 }
 
-// The dealer's frame: 1 to 8, then 18.
+// The dealer's frame: 1 to 7, 26, 8, then 18.
 pub fn deal(plan: Plan, value: Value) -> Dealt
     ensures { λ r. ⌜ dealtSays r ≡ dealing plan value ⌝ }
 {

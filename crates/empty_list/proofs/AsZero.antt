@@ -82,7 +82,7 @@ module _ (n : ℕ) (s : Settings) where
 
   on-empty-and-zero : EmptyAndZero (planOn n [] s) (planOn n (0 ∷ []) s)
   unfolding planOn listed
-  on-empty-and-zero = record { n = refl; dealer = refl; span = refl; depth = refl; none = refl; one = refl; zero = refl }
+  on-empty-and-zero = record { n = refl; dealer = refl; span = refl; default = refl; depth = refl; none = refl; one = refl; zero = refl }
 
   planned-empty-and-zero : planning n 0 [] s .number ≡ 0 → EmptyAndZero (planned n [] s) (planned n (0 ∷ []) s)
   planned-empty-and-zero e =
@@ -107,11 +107,12 @@ alike p q e =
       n = e .n;
       dealer = e .dealer;
       span = e .span;
+      default = e .default;
       depth = e .depth;
       tolerate = λ a. ap (λ l. tolerated l a) none ∙ same-sets .tolerate a ∙ ap (λ l. tolerated l a) (sym (e .zero));
       judged = (λ j. planning (p .n) (e .none j) (none j) (settingsOf p))
           ∙ same-answers .answers (p .n) (settingsOf p)
-          ∙ (λ j. planning (e .n j) (sym (e .one) j) (sym (e .zero) j) (record { dealer = e .dealer j; span = e .span j; depth = e .depth j }));
+          ∙ (λ j. planning (e .n j) (sym (e .one) j) (sym (e .zero) j) (record { dealer = e .dealer j; span = e .span j; default = e .default j; depth = e .depth j }));
     }
 
 pub empty-as-zero : EmptyAsZero

@@ -62,7 +62,8 @@ plans n count sets s =
     in-order (admitting n count sets) _ (admits n count sets)
     (either (leb n (s .dealer)) (refused 6) _ (omega arith)
     (either (ltb (s .span) 2) (refused 7) _ (omega arith)
-    (either (not (isDepth (s .depth))) (refused 8) (taken []) (omega arith) (omega arith))))
+    (either (leb (s .span) (s .default)) (refused 26) _ (omega arith)
+    (either (not (isDepth (s .depth))) (refused 8) (taken []) (omega arith) (omega arith)))))
 
 judges : (p : Plan) → Other (judged p)
 unfolding judged

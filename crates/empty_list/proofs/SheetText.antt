@@ -34,15 +34,15 @@ reads text bytes ls h = ap readLines (h .splits) ∙ lines-head (h .line) ls byt
 abbrev plays : List ℕ → List ℕ → Reading → Play
 plays cells out r = cond (eqb (r .answer .number) 0) (playHead (r .head) (r .frames) cells out) (refusedPlay (r .answer) cells out)
 
-module _ (n m d b v f : ℕ) where
+module _ (n m x d b v f : ℕ) where
   abbrev empty : List ℕ
-  empty = emptyHead n m d b v f
+  empty = emptyHead n m x d b v f
 
   abbrev zero : List ℕ
-  zero = zeroHead n m d b v f
+  zero = zeroHead n m x d b v f
 
   abbrev settings : Settings
-  settings = record { dealer = d; span = m; depth = b }
+  settings = record { dealer = d; span = m; default = x; depth = b }
 
   judged-same : judgeHead empty ≡ judgeHead zero
   unfolding judgeHead numberAt
@@ -94,11 +94,11 @@ unfolding playing
 fitting text cells out l = rw (le-ltb sheetMost (length text) l)
 
 pub same-sheets : SameSheets
-same-sheets n m d b v f ls empty-text zero-text cells out h k l l′ =
+same-sheets n m x d b v f ls empty-text zero-text cells out h k l l′ =
     let then : Play → Play =
-    λ x. cond (ltb (length out) outputNeeded) (refusedPlay (wrongAt 0 (refused 17)) cells out)
-    (cond (ltb (length cells) cellsNeeded) (refusedPlay (wrongAt 0 (refused 11)) cells out) x) in
+    λ y. cond (ltb (length out) outputNeeded) (refusedPlay (wrongAt 0 (refused 17)) cells out)
+    (cond (ltb (length cells) cellsNeeded) (refusedPlay (wrongAt 0 (refused 11)) cells out) y) in
     fitting empty-text cells out l
-    ∙ ap (λ r. then (plays cells out r)) (reads empty-text (emptyHead n m d b v f) ls h)
-    ∙ ap then (heads-same n m d b v f ls cells out)
-    ∙ sym (fitting zero-text cells out l′ ∙ ap (λ r. then (plays cells out r)) (reads zero-text (zeroHead n m d b v f) ls k))
+    ∙ ap (λ r. then (plays cells out r)) (reads empty-text (emptyHead n m x d b v f) ls h)
+    ∙ ap then (heads-same n m x d b v f ls cells out)
+    ∙ sym (fitting zero-text cells out l′ ∙ ap (λ r. then (plays cells out r)) (reads zero-text (zeroHead n m x d b v f) ls k))

@@ -38,6 +38,7 @@ pub record EmptyAndZero (p q : Plan) : Type 0 where
   pub n : p .n ≡ q .n
   pub dealer : p .dealer ≡ q .dealer
   pub span : p .span ≡ q .span
+  pub default : p .default ≡ q .default
   pub depth : p .depth ≡ q .depth
   pub none : p .count ≡ 0
   pub one : q .count ≡ 1

@@ -14,16 +14,16 @@ pub record HasHead (text bytes : List ℕ) (ls : List Line) : Type 0 where
   pub splits : lines text ≡ line ∷ ls
   pub says : lineBytes line ≡ some bytes
 
--- n, m, d, b, the dealer's value, no sets, F; and the same with the one set 00.
-abbrev pub emptyHead : ℕ → ℕ → ℕ → ℕ → ℕ → ℕ → List ℕ
-emptyHead n m d b v f = n ∷ m ∷ d ∷ b ∷ v ∷ 0 ∷ f ∷ []
+-- n, m, the default, d, b, the dealer's value, no sets, F; and the same with the one set 00.
+abbrev pub emptyHead : ℕ → ℕ → ℕ → ℕ → ℕ → ℕ → ℕ → List ℕ
+emptyHead n m x d b v f = n ∷ m ∷ x ∷ d ∷ b ∷ v ∷ 0 ∷ f ∷ []
 
-abbrev pub zeroHead : ℕ → ℕ → ℕ → ℕ → ℕ → ℕ → List ℕ
-zeroHead n m d b v f = n ∷ m ∷ d ∷ b ∷ v ∷ 1 ∷ 0 ∷ f ∷ []
+abbrev pub zeroHead : ℕ → ℕ → ℕ → ℕ → ℕ → ℕ → ℕ → List ℕ
+zeroHead n m x d b v f = n ∷ m ∷ x ∷ d ∷ b ∷ v ∷ 1 ∷ 0 ∷ f ∷ []
 
 -- Two sheets with these heads, alike in all other lines and not too long, are played the same: the answer, every byte of cells and output.
 abbrev pub SameSheets : Type 0
 SameSheets =
-    (n m d b v f : ℕ) (ls : List Line) (empty zero cells out : List ℕ)
-    → HasHead empty (emptyHead n m d b v f) ls → HasHead zero (zeroHead n m d b v f) ls
+    (n m x d b v f : ℕ) (ls : List Line) (empty zero cells out : List ℕ)
+    → HasHead empty (emptyHead n m x d b v f) ls → HasHead zero (zeroHead n m x d b v f) ls
     → length empty ≤ sheetMost → length zero ≤ sheetMost → playing empty cells out ≡ playing zero cells out

@@ -11,7 +11,7 @@ use Rattle.agreement.specs.Lists.{Call, receives, sends, closes, decides, calle
 -- n = 4, the sets of one board each, dealer 0 with 5, F = {3}. Boards 1 and 2 have records; board 2 lent one cell too many.
 unfoldable pub exampleSetting : Setting
 exampleSetting = record {
-  plan = planOn 4 (1 ∷ 2 ∷ 4 ∷ 8 ∷ []) (record { dealer = 0; span = 16; depth = 0 });
+  plan = planOn 4 (1 ∷ 2 ∷ 4 ∷ 8 ∷ []) (record { dealer = 0; span = 16; default = 9; depth = 0 });
   faulty = 8;
   word = 5;
   buffer = λ i. replicate (cond (eqb i 2) 17 16) 7;

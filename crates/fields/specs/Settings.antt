@@ -3,8 +3,13 @@ use Prim.Native.Nat.{ℕ}
 use mathlib.Core.List.{List}
 use Rattle.settings.specs.declared.settings.Settings.{Settings}
 use Rattle.hex.specs.Bytes.{byteAt}
-use Rattle.sheet.specs.Sheet.{spanPlace, dealerPlace, depthPlace}
+use Rattle.sheet.specs.Sheet.{spanPlace, defaultPlace, dealerPlace, depthPlace}
 use Rattle.text.specs.Text.{numberFrom}
 
 abbrev pub lineSettings : List ℕ → Settings
-lineSettings line = record { dealer = byteAt line dealerPlace; span = numberFrom line spanPlace; depth = byteAt line depthPlace }
+lineSettings line = record {
+  dealer = byteAt line dealerPlace;
+  span = numberFrom line spanPlace;
+  default = numberFrom line defaultPlace;
+  depth = byteAt line depthPlace;
+}

@@ -9,6 +9,7 @@ use sets::boards::all_boards;
 use sets::boards::within;
 use settings::settings::Settings;
 use sheet::head::DEALER;
+use sheet::head::DEFAULT;
 use sheet::head::DEPTH;
 use sheet::head::SETS;
 use sheet::head::SPAN;
@@ -45,10 +46,12 @@ pub fn settings_of(line: &[u8]) -> Settings
 {
     let dealer = byte_at(line, DEALER);
     let span = number_at(line, SPAN);
+    let default = number_at(line, DEFAULT);
     let depth = byte_at(line, DEPTH);
     Settings {
         dealer: dealer,
         span: span,
+        default: default,
         depth: depth,
     }
 }

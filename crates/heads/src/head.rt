@@ -1,4 +1,4 @@
-// The head of a sheet: n, m, d, b, the dealer's value, s, then s sets, then the faulty boards.
+// The head of a sheet: n, m, the default, d, b, the dealer's value, s, then s sets, then the faulty boards.
 use fields::fields::judge_faulty;
 use fields::fields::judge_word;
 use fields::fields::sets_of;
@@ -21,7 +21,7 @@ pub struct ReadHead {
     pub head: Head,
 }
 
-// The head, whose line is digits: 22, then 1 to 8, 18, 23.
+// The head, whose line is digits: 22, then 1 to 7, 26, 8, 18, 23.
 pub fn read_head(line: &[u8]) -> ReadHead
     ensures { λ r. ⌜ HeadRead (now (line .entry)) r ⌝ }
 {

@@ -25,6 +25,7 @@ fn main() {
     let settings = Settings {
         dealer: 0,
         span: 255,
+        default: 0,
         depth: 0,
     };
     let planned = Plan::new(7, &sets[0..32], settings);

@@ -29,6 +29,8 @@ fn main() {
     let settings = Settings {
         dealer: 0,
         span: 16,
+        // What counts where a board is silent or listed: 15, which is no reading.
+        default: 15,
         depth: 0,
     };
     let planned = Plan::new(4, &sets[0..4], settings);

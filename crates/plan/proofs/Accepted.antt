@@ -25,6 +25,7 @@ pub record Accepted (n count : ℕ) (sets : List ℕ) (s : Settings) : Type 0 wh
   pub admission : Admitted n count sets
   pub dealer-below : s .dealer < n
   pub two-values : 2 ≤ s .span
+  pub default-below : s .default < s .span
   pub depth-good : isDepth (s .depth) ≡ true
 
 pub accepted : (n count : ℕ) (sets : List ℕ) (s : Settings) → planning n count sets s .number ≡ 0
@@ -34,11 +35,13 @@ accepted n count sets s e =
     let (first, second) = both-taken (admitting n count sets) (judgeSettings n s) e in
     let (p6, e6) = passed (leb n (s .dealer)) (refused 6) _ (omega arith) second in
     let (p7, e7) = passed (ltb (s .span) 2) (refused 7) _ (omega arith) e6 in
-    let (p8, e8) = passed (not (isDepth (s .depth))) (refused 8) _ (omega arith) e7 in
+    let (p26, e26) = passed (leb (s .span) (s .default)) (refused 26) _ (omega arith) e7 in
+    let (p8, e8) = passed (not (isDepth (s .depth))) (refused 8) _ (omega arith) e26 in
     record {
       admission = admitted n count sets first;
       dealer-below = leb-false n (s .dealer) p6;
       two-values = ltb-false (s .span) 2 p7;
+      default-below = leb-false (s .span) (s .default) p26;
       depth-good = not-f (isDepth (s .depth)) p8;
     }
 

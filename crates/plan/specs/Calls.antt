@@ -12,7 +12,7 @@ use Rattle.settings.specs.declared.settings.Settings.{Settings}
 
 -- The plan returned beside a refusal: one void value, which no call accepts.
 unfoldable pub voidPlan : Plan
-voidPlan = record { n = 0; dealer = 0; span = 0; depth = 0; count = 0; sets = replicate 32 0 }
+voidPlan = record { n = 0; dealer = 0; span = 0; default = 0; depth = 0; count = 0; sets = replicate 32 0 }
 
 -- The plan on a list of at most 32 sets: the slots past the count hold 00.
 unfoldable pub planOn : ℕ → List ℕ → Settings → Plan
@@ -20,6 +20,7 @@ planOn n sets s = record {
   n = n;
   dealer = s .dealer;
   span = s .span;
+  default = s .default;
   depth = s .depth;
   count = length sets;
   sets = sets ++ replicate (32 - length sets) 0;
@@ -39,8 +40,9 @@ plans n sets s = record { answer = planning n (length sets) sets s; plan = plann
 
 -- The settings of a plan.
 abbrev pub settingsOf : Plan → Settings
-settingsOf p = record { dealer = p .dealer; span = p .span; depth = p .depth }
+settingsOf p = record { dealer = p .dealer; span = p .span; default = p .default; depth = p .depth }
 
--- What planning says of a plan's own fields (01, number 12: "a record whose plan or board would meet 1 to 10"; 9 and 10 are the board's).
+-- What planning says of a plan's own fields (01, number 12: "a record whose plan or board would meet 1 to 10", and 26 by 02 b; 9 and 10 are the
+-- board's).
 unfoldable pub judged : Plan → Outcome
 judged p = planning (p .n) (p .count) (listed p) (settingsOf p)

@@ -13,12 +13,14 @@ ghost use lib.ListN.{length, replicate};
 ghost use Rattle.refusals.specs.Outcome.{verdict};
 ghost use Rattle.plan.specs.Calls.{plans, planOn, voidPlan, judged};
 
-// A list of sets, a dealer, a span (values are below it) and a depth (0: the tree is not cut).
+// A list of sets, a dealer, a span (values are below it), a default (a value, put where one is missing or masked) and a
+// depth (0: the tree is not cut).
 // The slots of `sets` past the count are ignored.
 pub struct Plan {
     pub n: u8,
     pub dealer: u8,
     pub span: Value,
+    pub default: Value,
     pub depth: u8,
     pub count: u8,
     pub sets: [u8; SETS],
@@ -38,7 +40,7 @@ impl Plan {
     // A cell without a value; no value is it, since values are below a span of at most this.
     pub const BLANK: Value = 255;
 
-    // Planning: 1 to 8, in order.
+    // Planning: 1 to 7, 26, 8, in order.
     pub fn new(n: u8, sets: &[u8], settings: Settings) -> Planned
         ensures { λ r. ⌜ record { answer = verdict (r .answer); plan = r .plan } ≡ plans n (now (sets .entry)) settings ⌝ }
     {
@@ -61,7 +63,7 @@ impl Plan {
         }
     }
 
-    // The plan's own fields: 1 to 8. Above 32 sets only the number of boards comes before 3.
+    // The plan's own fields: 1 to 7, 26, 8. Above 32 sets only the number of boards comes before 3.
     pub fn judge(self) -> Verdict
         ensures { λ r. ⌜ verdict r ≡ judged self ⌝ }
     {
@@ -80,6 +82,7 @@ impl Plan {
         let settings = Settings {
             dealer: self.dealer,
             span: self.span,
+            default: self.default,
             depth: self.depth,
         };
         judge(n, &sets[0..count], settings)
@@ -93,6 +96,7 @@ impl Plan {
             n: 0,
             dealer: 0,
             span: 0,
+            default: 0,
             depth: 0,
             count: 0,
             sets: [0u8; SETS],
@@ -109,6 +113,7 @@ impl Plan {
             n: n,
             dealer: settings.dealer,
             span: settings.span,
+            default: settings.default,
             depth: settings.depth,
             count: sets.len() as u8,
             sets: slots,

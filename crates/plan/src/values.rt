@@ -9,7 +9,7 @@ impl Plan {
     pub fn default(self) -> Value
         ensures { λ r. ⌜ r ≡ default self ⌝ }
     {
-        0
+        self.default
     }
 
     // A cell of m or more, read as a value, counts as the default.

@@ -1,10 +1,10 @@
 -- Values are below the span, and lists name boards below n.
 -- Assumes nothing.
 use Prim.Native.Nat.{ℕ, zero, suc, _-_, _<_, _^_}
-use mathlib.Core.Path.{_≡_, refl}
+use mathlib.Core.Path.{_≡_, refl, sym, subst}
 use mathlib.Core.Bool.{Bool}
 use mathlib.Core.List.{List, _∷_, List·Memᴰ, List·Memᴰ·head, List·Memᴰ·tail, []}
-use mathlib.Core.Option.{Option, some, none, Option·getD}
+use mathlib.Core.Option.{Option, some, none}
 use native.Mathlib.Omega.{arith}
 use lib.Dec.{ltb}
 use lib.ListN.{length}
@@ -24,18 +24,15 @@ use Rattle.protocol.specs.Nodes.{read, internal, inner}
 use Rattle.protocol.specs.declared.records.Rule.the-variants as Rule
 use Rattle.protocol.specs.Detection.{vote, resolve, resolveRoot, byCell, byResolving, passes, Scan, detectG, detectAllG, detectC, detectAllC, detectLevels}
 use Rattle.protocol.specs.Rounds.{Board, gather}
+use Rattle.protocol.proofs.Default.{rootResolved, unresolved-default, resolved-root}
 use Rattle.protocol.proofs.Nodes.{inner-inv, node-label}
 use Rattle.protocol.proofs.Listing.{join-below}
 use Rattle.protocol.proofs.Rules.{detectG-joined, detectG-kept, detectC-joined, detectC-kept}
 
-module _ (p : Plan) (some-value : 0 < p .span) where
-  pub default-small : default p < p .span
-  unfolding default
-  default-small = some-value
-
+module _ (p : Plan) (default-below : default p < p .span) where
   pub value-small : (x : ℕ) → value p x < p .span
   unfolding value
-  value-small x = cases (ltb x (p .span)) (λ e. rw e (ltb-true x (p .span) e)) (λ e. rw e default-small)
+  value-small x = cases (ltb x (p .span)) (λ e. rw e (ltb-true x (p .span) e)) (λ e. rw e default-below)
 
   pub read-small : (cells : List ℕ) (α : Label) → read p cells α < p .span
   unfolding read
@@ -60,12 +57,11 @@ module _ (p : Plan) (some-value : 0 < p .span) where
       (λ e. rw e (some-small (read p cells α) (read-small cells α)))
 
   pub root-small : (i : ℕ) (cells : List ℕ) → resolveRoot p i cells < p .span
-  unfolding resolveRoot
-  root-small i cells = go (resolve p i cells (rounds p .0 - 1) (p .dealer ∷ [])) (resolve-small i cells (rounds p .0 - 1) (p .dealer ∷ []))
+  root-small i cells = go (rootResolved p i cells) refl
     where
-      go : (o : Option ℕ) → Small o → Option·getD o (default p) < p .span
-      go none h = default-small
-      go (some v) h = h v refl
+      go : (o : Option ℕ) → rootResolved p i cells ≡ o → resolveRoot p i cells < p .span
+      go none e = subst (λ v. v < p .span) (sym (unresolved-default p i cells e)) default-below
+      go (some v) e = subst (λ v. v < p .span) (sym (resolved-root p i cells v e)) (resolve-small i cells (rounds p .0 - 1) (p .dealer ∷ []) v e)
 
 -- The last board of a label is below n.
 pub last-below : (n d k : ℕ) (α : Label) → d < n → List·Memᴰ α (labels n d k) → last α < n

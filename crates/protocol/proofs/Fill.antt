@@ -20,7 +20,7 @@ use Rattle.protocol.specs.Rounds.{fill}
 -- The default is a value: it counts as itself.
 pub value-default : (p : Plan) → value p (default p) ≡ default p
 unfolding value default
-value-default p = cases (ltb 0 (p .span)) (λ e. rw e) (λ e. rw e)
+value-default p = cases (ltb (p .default) (p .span)) (λ e. rw e) (λ e. rw e)
 
 module _ (p : Plan) (l : p .dealer < p .n) where
   -- α is a label of level k.

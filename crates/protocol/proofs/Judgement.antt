@@ -17,6 +17,7 @@ use Rattle.refusals.proofs.Outcomes.{passed, both-taken}
 use Rattle.plan.specs.declared.plan.Plan.{Plan}
 use Rattle.plan.specs.Listed.{listed}
 use Rattle.plan.specs.Calls.{judged, settingsOf}
+use Rattle.plan.specs.Values.{default}
 use Rattle.plan.proofs.Accepted.{Accepted, accepted}
 use Rattle.schedule.proofs.Steps.{Has, has-round, round-has}
 use Rattle.tree.specs.Places.{cellCount}
@@ -36,6 +37,11 @@ taken-is o e = eq-eqb (o .number) 0 e
 pub plan-facts : (p : Plan) → judged p .number ≡ 0 → Accepted (p .n) (p .count) (listed p) (settingsOf p)
 unfolding judged
 plan-facts p e = accepted (p .n) (p .count) (listed p) (settingsOf p) e
+
+-- Its default is a value.
+pub plan-default : (p : Plan) → judged p .number ≡ 0 → default p < p .span
+unfolding default
+plan-default p e = plan-facts p e .default-below
 
 -- A good record, by the grounds of 12: its plan, its number, which is not the dealer's, its position, its marks and its decision.
 pub record Good (r : Record) : Type 0 where

@@ -39,7 +39,7 @@ begun-length n cells h =
       length-drop (cellCount n) cells,
     )
 
--- 01: "a frame from a listed board" counts as 0 throughout: it has no values.
+-- 01: "a frame from a listed board" counts as 0 throughout, 02 b: as the default: it has no values.
 pub listed-silent : (list q : ℕ) (αs : List Label) (f : List ℕ) → member q (asSet list) ≡ true → counted list q αs f ≡ []
 unfolding counted
 listed-silent list q αs f on = cases (eqb (length f) (length αs)) (λ e. rw (e, on) refl) (λ e. rw e refl)

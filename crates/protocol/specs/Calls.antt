@@ -47,7 +47,7 @@ unfoldable pub judgeCells : Plan → List ℕ → Outcome
 judgeCells p cells = cond (ltb (length cells) (cellCount (p .n))) (refused 11) (taken [])
 
 -- 12: "a record whose plan or board would meet 1 to 10, whose run or round the plan lacks, that lists or marks board n or above,
--- or that is decided with a decision not below m". Each ground is one test.
+-- or that is decided with a decision not below m". 26 is among what a plan would meet (02 b). Each ground is one test.
 unfoldable pub goodPlan : Record → Bool
 goodPlan r = isTaken (judged (r .plan))
 
@@ -97,7 +97,7 @@ voidRecord = record {
   decision = 0;
 }
 
--- 01, 'Beginning a board': 1 to 8, then 9, 10, 11. Its cells hold FF; surplus cells are not touched.
+-- 01, 'Beginning a board': 1 to 7, 26 (02 b), 8, then 9, 10, 11. Its cells hold FF; surplus cells are not touched.
 unfoldable pub judgeBeginning : Plan → ℕ → List ℕ → Outcome
 judgeBeginning p i cells = andThen (judged p) (andThen (judgeBoard p i) (judgeCells p cells))
 
@@ -108,7 +108,7 @@ beginning p i cells =
     let kept : Board = boardWith voidRecord cells in
     record { answer = answer; board = cond (isTaken answer) begun kept }
 
--- 01, 'Dealer's frame': 1 to 8, then 18. The frame has one value.
+-- 01, 'Dealer's frame': 1 to 7, 26 (02 b), 8, then 18. The frame has one value.
 unfoldable pub dealing : Plan → ℕ → Outcome
 dealing p v = andThen (judged p) (cond (leb (p .span) v) (refused 18) (taken (encode (v ∷ []))))
 

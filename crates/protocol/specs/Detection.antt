@@ -37,7 +37,7 @@ resolve p i cells (suc left) α =
     let voted = vote p α (λ c. getD results c none) in
     cond (internal p i α) voted (some (read p cells α))
 
--- The root. 01: an unresolved root is 0.
+-- The root. 01: an unresolved root is 0; 02 b: the default.
 unfoldable pub resolveRoot : Plan → ℕ → List ℕ → ℕ
 resolveRoot p i cells = Option·getD (resolve p i cells (rounds p .0 - 1) (p .dealer ∷ [])) (default p)
 
@@ -68,7 +68,7 @@ maskBoard p r [] cells = cells
 maskBoard p r (γ ∷ γs) cells = maskBoard p r γs (cond (eqb (last γ) r) (store (p .n) cells γ (default p)) cells)
 
 -- 003: FD1; 01: rule G. At one internal node of board i, in run t and round k: r joins, "and every level-k cell whose node ends in r becomes 0 before
--- the next node is looked at".
+-- the next node is looked at"; 02 b: the default.
 unfoldable pub detectG : Plan → ℕ → Run → Round → Label → Scan → Scan
 detectG p i t k α s =
     let joined : Scan = record {

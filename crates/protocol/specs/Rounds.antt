@@ -36,7 +36,8 @@ fill p q [] vs cells = cells
 fill p q (α ∷ αs) [] cells = fill p q αs [] (store (p .n) cells (q ∷ α) (default p))
 fill p q (α ∷ αs) (v ∷ vs) cells = fill p q αs vs (store (p .n) cells (q ∷ α) (value p v))
 
--- 01: "A frame of another length, .. and a frame from a listed board all count as 0 throughout": such a frame has no values.
+-- 01: "A frame of another length, .. and a frame from a listed board all count as 0 throughout", 02 b: as the default: such a frame has
+-- no values.
 unfoldable pub counted : ℕ → ℕ → List Label → List ℕ → List ℕ
 counted list q αs f = cond (eqb (length f) (length αs) && not (member q (asSet list))) f []
 

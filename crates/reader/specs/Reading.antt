@@ -24,7 +24,7 @@ pub record FirstRead (text : List ℕ) (end : ℕ) (r : ReadHead) : Type 0 where
   pub ends : end ≡ lineStop text 0
   pub read : HeadRead (take (end - 0) text) r
 
--- The first line: 21, 22, then 1 to 8, 18, 23.
+-- The first line: 21, 22, then 1 to 7, 26, 8, 18, 23.
 unfoldable pub judgeTop : List Line → Outcome
 judgeTop [] = refused 22
 judgeTop (l ∷ ls) =

@@ -6,7 +6,7 @@ use lib.Dec.{eqb}
 use lib.ListN.{getD}
 use borrow.Author.Tests.{ne-eqb}
 use Rattle.refusals.specs.declared.refusal.Refusal.{Refusal}
-use Rattle.refusals.specs.declared.refusal.Refusal.the-variants.{Boards, TooManySets, UnknownBoard, Covered, Dealer, Span, Depth, BoardNumber, BoardIsDealer, ShortCells, BadRecord, Decided, NotDue, AlreadyTaken, NothingToSend, ShortOutput, BadValue, Undecided, LongSheet, BadText, BadHead, BadFaulty, BadFrame}
+use Rattle.refusals.specs.declared.refusal.Refusal.the-variants.{Boards, TooManySets, UnknownBoard, Covered, Dealer, Span, Depth, BoardNumber, BoardIsDealer, ShortCells, BadRecord, Decided, NotDue, AlreadyTaken, NothingToSend, ShortOutput, BadValue, Undecided, LongSheet, BadText, BadHead, BadFaulty, BadFrame, Default}
 use Rattle.refusals.specs.declared.refusal.Verdict.{Verdict}
 use Rattle.refusals.specs.declared.refusal.Verdict.the-variants.{Accepted, Refused}
 use Rattle.refusals.specs.Outcome.{Outcome, refusal, verdict}
@@ -37,7 +37,8 @@ why o =
     (cond (eqb (o .number) 21) BadText
     (cond (eqb (o .number) 22) BadHead
     (cond (eqb (o .number) 23) BadFaulty
-    BadFrame)))))))))))))))))))))
+    (cond (eqb (o .number) 24) BadFrame
+    Default))))))))))))))))))))))
 
 pub why-refusal : (r : Refusal) → why (refusal r) ≡ r
 unfolding why refusal
@@ -64,6 +65,7 @@ why-refusal BadText = refl
 why-refusal BadHead = refl
 why-refusal BadFaulty = refl
 why-refusal BadFrame = refl
+why-refusal Default = refl
 
 pub refusal-injective : (r s : Refusal) → refusal r ≡ refusal s → r ≡ s
 refusal-injective r s e = sym (why-refusal r) ∙ ap why e ∙ why-refusal s

@@ -8,7 +8,7 @@ use native.Mathlib.Omega.{arith}
 use lib.Dec.{eqb}
 use borrow.Author.Tests.{eq-eqb, ne-eqb, eqb-true, eqb-false}
 use Rattle.refusals.specs.declared.refusal.Refusal.{Refusal}
-use Rattle.refusals.specs.declared.refusal.Refusal.the-variants.{Boards, TooManySets, UnknownBoard, Covered, Dealer, Span, Depth, BoardNumber, BoardIsDealer, ShortCells, BadRecord, Decided, NotDue, AlreadyTaken, NothingToSend, ShortOutput, BadValue, Undecided, LongSheet, BadText, BadHead, BadFaulty, BadFrame}
+use Rattle.refusals.specs.declared.refusal.Refusal.the-variants.{Boards, TooManySets, UnknownBoard, Covered, Dealer, Span, Depth, BoardNumber, BoardIsDealer, ShortCells, BadRecord, Decided, NotDue, AlreadyTaken, NothingToSend, ShortOutput, BadValue, Undecided, LongSheet, BadText, BadHead, BadFaulty, BadFrame, Default}
 use Rattle.refusals.specs.Outcome.{Outcome, refusal, andThen}
 use Rattle.sets.proofs.Tests.{cases}
 
@@ -37,6 +37,7 @@ refusal-number BadText = omega arith
 refusal-number BadHead = omega arith
 refusal-number BadFaulty = omega arith
 refusal-number BadFrame = omega arith
+refusal-number Default = omega arith
 
 pub taken-first : (o next : Outcome) → o .number ≡ 0 → andThen o next ≡ next
 unfolding andThen

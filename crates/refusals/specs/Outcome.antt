@@ -4,7 +4,7 @@ use mathlib.Core.Bool.{cond}
 use mathlib.Core.List.{List, [], _∷_}
 use lib.Dec.{eqb}
 use Rattle.refusals.specs.declared.refusal.Refusal.{Refusal}
-use Rattle.refusals.specs.declared.refusal.Refusal.the-variants.{Boards, TooManySets, UnknownBoard, Covered, Dealer, Span, Depth, BoardNumber, BoardIsDealer, ShortCells, BadRecord, Decided, NotDue, AlreadyTaken, NothingToSend, ShortOutput, BadValue, Undecided, LongSheet, BadText, BadHead, BadFaulty, BadFrame}
+use Rattle.refusals.specs.declared.refusal.Refusal.the-variants.{Boards, TooManySets, UnknownBoard, Covered, Dealer, Span, Depth, BoardNumber, BoardIsDealer, ShortCells, BadRecord, Decided, NotDue, AlreadyTaken, NothingToSend, ShortOutput, BadValue, Undecided, LongSheet, BadText, BadHead, BadFaulty, BadFrame, Default}
 use Rattle.refusals.specs.declared.refusal.Verdict.{Verdict}
 use Rattle.refusals.specs.declared.refusal.Verdict.the-variants.{Accepted, Refused}
 
@@ -24,7 +24,8 @@ refused k = record { number = k; values = [] }
 abbrev pub refusedAt : List ℕ → Outcome
 refusedAt places = record { number = 5; values = places }
 
--- 01, 'When a call is turned down': the number of each refusal. Number 2, no sets, is no refusal any more (02 a).
+-- 01, 'When a call is turned down': the number of each refusal. Number 2, no sets, is no refusal any more
+-- (02 a); 02 b: "26, a default not below m".
 unfoldable pub refusal : Refusal → Outcome
 refusal Boards = refused 1
 refusal TooManySets = refused 3
@@ -49,6 +50,7 @@ refusal BadText = refused 21
 refusal BadHead = refused 22
 refusal BadFaulty = refused 23
 refusal BadFrame = refused 24
+refusal Default = refused 26
 
 -- The answer to admitting sets and to planning.
 unfoldable pub verdict : Verdict → Outcome

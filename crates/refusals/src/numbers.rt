@@ -1,4 +1,4 @@
-// The numbers of 01.
+// The numbers of 01 and of 02.
 use crate::refusal::Refusal;
 ghost use mathlib.Core.Path.{_≡_};
 ghost use Rattle.refusals.specs.Outcome.{refusal};
@@ -31,5 +31,6 @@ pub fn number_of(why: Refusal) -> u8
         Refusal::BadHead => 22,
         Refusal::BadFaulty => 23,
         Refusal::BadFrame => 24,
+        Refusal::Default => 26,
     }
 }

@@ -50,6 +50,8 @@ pub enum Refusal {
     BadFaulty,
     // A frame line that no frame is due for, or out of order.
     BadFrame,
+    // The default is not below the span.
+    Default,
 }
 
 // The answer to admitting sets and to planning.

@@ -44,7 +44,7 @@ module _ (p : Plan) (i : ℕ) (cells : List ℕ) (α : Label) where
       ∙ rw e refl
 
 -- The root: none is the default.
-none-root : (p : Plan) (s : 0 < p .span) (o : Option ℕ) (v : ℕ) → p .span ≤ 255 → Small p s o → v ≡ worth o → v ≡ 255 → default p ≡ Option·getD o (default p)
+none-root : (p : Plan) (s : default p < p .span) (o : Option ℕ) (v : ℕ) → p .span ≤ 255 → Small p s o → v ≡ worth o → v ≡ 255 → default p ≡ Option·getD o (default p)
 unfolding worth
 none-root p s none v m h e z = refl
 none-root p s (some w) v m h e z = let k : v ≡ w = e in absurd (omega (arith, h w refl))
@@ -55,7 +55,7 @@ some-root p none v e ne = absurd (ne e)
 some-root p (some w) v e ne = e
 
 module _ (p : Plan) (i : ℕ) (cells : List ℕ) (v : ℕ) (e : v ≡ worth (resolve p i cells (rounds p .0 - 1) (p .dealer ∷ []))) where
-  pub root-none : p .span ≤ 255 → 0 < p .span → v ≡ 255 → default p ≡ resolveRoot p i cells
+  pub root-none : p .span ≤ 255 → default p < p .span → v ≡ 255 → default p ≡ resolveRoot p i cells
   unfolding resolveRoot
   root-none m s z =
       none-root p s (resolve p i cells (rounds p .0 - 1) (p .dealer ∷ [])) v m (resolve-small p s i cells (rounds p .0 - 1) (p .dealer ∷ [])) e z

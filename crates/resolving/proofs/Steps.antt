@@ -37,6 +37,7 @@ use Rattle.internal.specs.Tests.{isInternal}
 use Rattle.walk.proofs.Carried.{size-most}
 use Rattle.internal.proofs.InternalNodes.{internal-is}
 use Rattle.voting.specs.Worth.{worth, childTable}
+use Rattle.protocol.proofs.Judgement.{plan-default}
 use Rattle.voting.specs.Tables.{voted}
 use Rattle.voting.proofs.Table.{table-zero, table-more, table-skip}
 use Rattle.leaves.specs.Leaves.{Leaves}
@@ -63,7 +64,6 @@ same-room k e = record {
   some-round = k .some-round;
   most-rounds = k .most-rounds;
   table = k .table;
-  some-value = k .some-value;
   most-values = k .most-values;
   room = omega (arith, k .room);
 }
@@ -300,7 +300,7 @@ module _ {p : Plan} {holders : List ℕ} {i : ℕ} {before : List ℕ} (k : Conv
     root-cells = f .cells-are ∙ ap₂ (λ x β. settled p i (x - 1) β before) e root-is
 
     pub none-roots : {d : ℕ} → v ≡ 255 → d ≡ default p → Roots p i d before after
-    none-roots z x = record { root-is = x ∙ root-none p i before v root-value (k .most-values) (k .some-value) z; cells-are = root-cells }
+    none-roots z x = record { root-is = x ∙ root-none p i before v root-value (k .most-values) (plan-default p (k .accepted)) z; cells-are = root-cells }
 
     pub some-roots : v ≢ 255 → Roots p i v before after
     some-roots ne = record { root-is = root-some p i before v root-value ne; cells-are = root-cells }

@@ -27,7 +27,6 @@ pub record Convertible (p : Plan) (holders : List ℕ) (i : ℕ) (cells : List �
   pub some-round : 1 ≤ rounds p .0
   pub most-rounds : rounds p .0 ≤ p .n
   pub table : holders ≡ holderTable (listed p)
-  pub some-value : 1 ≤ p .span
   pub most-values : p .span ≤ 255
   pub room : cellCount (p .n) ≤ length cells
 

@@ -1,3 +1,3 @@
-// Planning: what is refused of sets, dealer, span and depth.
+// Planning: what is refused of sets, dealer, span, default and depth.
 pub mod planning;
 pub mod settings;

@@ -8,7 +8,7 @@ ghost use lib.ListN.{length};
 ghost use Rattle.refusals.specs.Outcome.{verdict};
 ghost use Rattle.settings.specs.Planning.{planning};
 
-// 1 to 8, in order.
+// 1 to 7, 26, 8, in order.
 pub fn judge(n: u8, sets: &[u8], settings: Settings) -> Verdict
     ensures { λ r. ⌜ verdict r ≡ planning n (length (now (sets .entry))) (now (sets .entry)) settings ⌝ }
 {

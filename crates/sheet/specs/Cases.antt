@@ -9,10 +9,14 @@ use Rattle.plan.specs.declared.plan.Plan.{Plan}
 use Rattle.heights.specs.Levels.{height}
 use Rattle.schedule.specs.Schedule.{rounds, runs, steps}
 use Rattle.admission.specs.Calls.{admitting}
+use Rattle.settings.specs.declared.settings.Settings.{Settings}
 use Rattle.settings.specs.Planning.{planning}
 use Rattle.plan.specs.Calls.{planned}
 use Rattle.protocol.specs.Limits.{outputNeeded, cellsNeeded}
 use Rattle.protocol.specs.Nodes.{nodes}
+use Rattle.protocol.specs.Listing.{asSet}
+use Rattle.protocol.specs.Records.{standingAt, withMarks}
+use Rattle.protocol.specs.Rounds.{boardWith, gather}
 use Rattle.protocol.specs.Calls.{beginning, receiving}
 use Rattle.sheet.specs.Playing.{Play, playing, benchPrints}
 use Rattle.tree.specs.Cells.{blank}
@@ -20,8 +24,8 @@ use Rattle.tree.specs.Cells.{blank}
 pub data Row : Type 0 where
   -- n, sets: the number and the values of admitting
   admit : ℕ → List ℕ → ℕ → List ℕ → Row
-  -- n, sets, d, m, b: the number of planning
-  refuse : ℕ → List ℕ → ℕ → ℕ → ℕ → ℕ → Row
+  -- n, sets, d, m, default, b: the number of planning
+  refuse : ℕ → List ℕ → ℕ → ℕ → ℕ → ℕ → ℕ → Row
   -- n, sets, d, b: H, runs, rounds over all runs
   schedule : ℕ → List ℕ → ℕ → ℕ → ℕ → ℕ → ℕ → Row
   -- n, sets, d: the number of nodes
@@ -30,8 +34,11 @@ pub data Row : Type 0 where
   sheet : List ℕ → List ℕ → List ℕ → Row
   -- a sheet that is turned down: the line that is printed
   refusedSheet : List ℕ → List ℕ → Row
-  -- m, a value handed in: what is stored
-  stored : ℕ → ℕ → ℕ → Row
+  -- m, default, list, the values of the dealer's frame, handed in to board 1 of four with that list: what is stored
+  stored : ℕ → ℕ → ℕ → List ℕ → ℕ → Row
+  -- board 2 of five with the sets 03, 05, 09, dealer 0 and m = 16, in round 3, every frame handed in: default, the cells of levels 1 to 3;
+  -- the list and these cells after rule G
+  gathered : ℕ → List ℕ → ℕ → List ℕ → Row
 
 -- The nodes of levels 1 to k.
 unfoldable pub nodeCount : Plan → ℕ → ℕ
@@ -50,25 +57,33 @@ played r text cells =
     (eqb (r .answer .number) 0 && sameList (r .answer .values) (length text ∷ []))
     && (sameList (r .out) (text ++ replicate (outputNeeded - length text) 9) && sameList (r .cells) (cells ++ replicate (cellsNeeded - length cells) 7))
 
--- Is the plan with span 16 accepted?
+-- The settings with a span of 16 and the default 0.
+abbrev sixteen : ℕ → ℕ → Settings
+sixteen d b = record { dealer = d; span = 16; default = 0; depth = b }
+
+-- Is the plan with these settings accepted?
 unfoldable pub isAccepted : ℕ → List ℕ → ℕ → ℕ → Bool
-isAccepted n sets d b = eqb (planning n (length sets) sets (record { dealer = d; span = 16; depth = b }) .number) 0
+isAccepted n sets d b = eqb (planning n (length sets) sets (sixteen d b) .number) 0
 
 -- Does a row hold?
 unfoldable pub holds : Row → Bool
 holds (admit n sets k vs) = let o = admitting n (length sets) sets in eqb (o .number) k && sameList (o .values) vs
-holds (refuse n sets d m b k) = eqb (planning n (length sets) sets (record { dealer = d; span = m; depth = b }) .number) k
+holds (refuse n sets d m x b k) = eqb (planning n (length sets) sets (record { dealer = d; span = m; default = x; depth = b }) .number) k
 holds (schedule n sets d b h t j) =
-    let p = planned n sets (record { dealer = d; span = 16; depth = b }) in
+    let p = planned n sets (sixteen d b) in
     (isAccepted n sets d b && eqb (height p) h) && (eqb (runs p .0) t && eqb (steps p) j)
-holds (tree n sets d k) = let p = planned n sets (record { dealer = d; span = 16; depth = 0 }) in isAccepted n sets d 0 && eqb (nodeCount p (rounds p .0)) k
+holds (tree n sets d k) = let p = planned n sets (sixteen d 0) in isAccepted n sets d 0 && eqb (nodeCount p (rounds p .0)) k
 holds (sheet text out cells) = let r = playing text lentCells lentOut in played r out cells
 holds (refusedSheet text line) = sameList (benchPrints text lentCells lentOut) line
-holds (stored m v x) =
-    let p = planned 4 (1 ∷ 2 ∷ 4 ∷ 8 ∷ []) (record { dealer = 0; span = m; depth = 0 }) in
+holds (stored m x list vs c) =
+    let p = planned 4 (1 ∷ 2 ∷ 4 ∷ 8 ∷ []) (record { dealer = 0; span = m; default = x; depth = 0 }) in
     let b = beginning p 1 (replicate 16 9) .board in
-    let r = receiving b 0 (v ∷ []) in
-    eqb (r .answer .number) 0 && eqb (getD (r .board .cells) 0 blank) x
+    let r = receiving (boardWith (standingAt p (b .rec .board) (b .rec .run) (b .rec .round) list) (b .cells)) 0 vs in
+    eqb (r .answer .number) 0 && eqb (getD (r .board .cells) 0 blank) c
+holds (gathered x cells list after) =
+    let p = planned 5 (0x03 ∷ 0x05 ∷ 0x09 ∷ []) (record { dealer = 0; span = 16; default = x; depth = 0 }) in
+    let s = gather (boardWith (withMarks (standingAt p 2 (record { 0 = 1 }) (record { 0 = 3 }) 0) 0x1A) (cells ++ replicate 48 9)) in
+    eqb (asSet (s .list)) list && sameList (s .cells) (after ++ replicate 48 9)
 
 unfoldable pub allHold : List Row → Bool
 allHold [] = true
@@ -78,27 +93,33 @@ allHold (r ∷ rs) = holds r && allHold rs
 unfoldable pub example1 : List ℕ
 example1 = 0x07 ∷ 0x09 ∷ 0x12 ∷ 0x22 ∷ 0x0C ∷ []
 
--- The head of cases 7 and 8, 0410000005040102040801, and a newline.
+-- A head with the sets 01, 02, 04, 08: 0410, the two digits of the default, 0000050401020408, 0, the digit of F, and a newline.
+unfoldable pub fourHead : ℕ → ℕ → ℕ → List ℕ
+fourHead x y f =
+    0x30 ∷ 0x34 ∷ 0x31 ∷ 0x30 ∷ x ∷ y ∷ 0x30 ∷ 0x30 ∷ 0x30 ∷ 0x30 ∷ 0x30 ∷ 0x35 ∷ 0x30 ∷ 0x34 ∷ 0x30 ∷ 0x31 ∷ 0x30 ∷ 0x32 ∷ 0x30 ∷ 0x34
+    ∷ 0x30 ∷ 0x38 ∷ 0x30 ∷ f ∷ 0x0A ∷ []
+
+-- The head of cases 7 and 8, 041000000005040102040801. 02 b: "cases 7 to 9 hold 00 there".
 unfoldable pub head7 : List ℕ
-head7 =
-    0x30 ∷ 0x34 ∷ 0x31 ∷ 0x30 ∷ 0x30 ∷ 0x30 ∷ 0x30 ∷ 0x30 ∷ 0x30 ∷ 0x35 ∷ 0x30 ∷ 0x34 ∷ 0x30 ∷ 0x31 ∷ 0x30 ∷ 0x32 ∷ 0x30 ∷ 0x34
-    ∷ 0x30 ∷ 0x38 ∷ 0x30 ∷ 0x31 ∷ 0x0A ∷ []
+head7 = fourHead 0x30 0x30 0x31
 
--- The head of case 9, 0410000005040102040808, and a newline.
+-- The head of case 9, 041000000005040102040808.
 unfoldable pub head9 : List ℕ
-head9 =
-    0x30 ∷ 0x34 ∷ 0x31 ∷ 0x30 ∷ 0x30 ∷ 0x30 ∷ 0x30 ∷ 0x30 ∷ 0x30 ∷ 0x35 ∷ 0x30 ∷ 0x34 ∷ 0x30 ∷ 0x31 ∷ 0x30 ∷ 0x32 ∷ 0x30 ∷ 0x34
-    ∷ 0x30 ∷ 0x38 ∷ 0x30 ∷ 0x38 ∷ 0x0A ∷ []
+head9 = fourHead 0x30 0x30 0x38
 
--- A head with no sets: 0, the digit of n, 1000000500, 0, the digit of F, and a newline.
+-- A head with no sets: 0, the digit of n, 100000000500, 0, the digit of F, and a newline.
 unfoldable pub bareHead : ℕ → ℕ → List ℕ
 bareHead n f =
-    0x30 ∷ n ∷ 0x31 ∷ 0x30 ∷ 0x30 ∷ 0x30 ∷ 0x30 ∷ 0x30 ∷ 0x30 ∷ 0x35 ∷ 0x30 ∷ 0x30 ∷ 0x30 ∷ f ∷ 0x0A ∷ []
+    0x30 ∷ n ∷ 0x31 ∷ 0x30 ∷ 0x30 ∷ 0x30 ∷ 0x30 ∷ 0x30 ∷ 0x30 ∷ 0x30 ∷ 0x30 ∷ 0x35 ∷ 0x30 ∷ 0x30 ∷ 0x30 ∷ f ∷ 0x0A ∷ []
 
 -- 010100, a receiver's digits, and a value's digits, and a newline: a frame of the dealer.
 unfoldable pub dealerLine : ℕ → ℕ → List ℕ
 dealerLine i v =
     0x30 ∷ 0x31 ∷ 0x30 ∷ 0x31 ∷ 0x30 ∷ 0x30 ∷ 0x30 ∷ i ∷ 0x30 ∷ v ∷ 0x0A ∷ []
+
+-- 010100, a receiver's digits, and 0909, and a newline: a frame of the dealer with a value too many.
+unfoldable pub misfitLine : ℕ → List ℕ
+misfitLine i = 0x30 ∷ 0x31 ∷ 0x30 ∷ 0x31 ∷ 0x30 ∷ 0x30 ∷ 0x30 ∷ i ∷ 0x30 ∷ 0x39 ∷ 0x30 ∷ 0x39 ∷ 0x0A ∷ []
 
 -- 0102030109 and a newline.
 unfoldable pub liar9 : List ℕ
@@ -115,6 +136,13 @@ decidedPart v = v ∷ replicate 15 0xFF
 -- A part that is left alone.
 unfoldable pub alone : List ℕ
 alone = replicate 16 7
+
+-- What boards 1, 2 and 3 print if they decide 7 and list the set with this digit; and what the parts hold.
+unfoldable pub sevenLines : ℕ → List ℕ
+sevenLines s = printedLine 0x31 0x37 s ++ (printedLine 0x32 0x37 s ++ printedLine 0x33 0x37 s)
+
+unfoldable pub sevenParts : List ℕ
+sevenParts = alone ++ (decidedPart 7 ++ (decidedPart 7 ++ decidedPart 7))
 
 unfoldable pub caseTable : List Row
 caseTable =
@@ -134,7 +162,7 @@ caseTable =
     ∷ schedule 7 (0x3F ∷ []) 0 5 7 3 13
     ∷ schedule 7 (0x3F ∷ []) 0 0 7 1 7
     ∷ schedule 7 (0x3F ∷ []) 0 7 7 1 7
-    ∷ refuse 7 (0x3F ∷ []) 0 16 3 8
+    ∷ refuse 7 (0x3F ∷ []) 0 16 0 3 8
     -- 6
     ∷ schedule 7 (0x3F ∷ []) 6 4 1 1 1
     ∷ schedule 7 (0x3F ∷ []) 6 5 1 1 1
@@ -156,8 +184,8 @@ caseTable =
     ∷ refusedSheet [] (0x46 ∷ 0x46 ∷ 0x31 ∷ 0x36 ∷ 0x30 ∷ 0x30 ∷ 0x30 ∷ 0x31 ∷ 0x0A ∷ [])
     ∷ refusedSheet (head9 ++ (liar9 ++ liar9)) (0x46 ∷ 0x46 ∷ 0x31 ∷ 0x38 ∷ 0x30 ∷ 0x30 ∷ 0x30 ∷ 0x33 ∷ 0x0A ∷ [])
     -- 10
-    ∷ stored 16 0x0F 0x0F
-    ∷ stored 16 0x10 0
+    ∷ stored 16 0 0x00 (0x0F ∷ []) 0x0F
+    ∷ stored 16 0 0x00 (0x10 ∷ []) 0
     -- 02 a, no sets: n = 1 prints 000500; n = 4 prints 000500, 010500, 020500, 030500; F = 01 is turned down, FF170001
     ∷ admit 1 [] 0 []
     ∷ admit 4 [] 0 []
@@ -169,4 +197,27 @@ caseTable =
     (printedLine 0x30 0x35 0x30 ++ (printedLine 0x31 0x35 0x30 ++ (printedLine 0x32 0x35 0x30 ++ printedLine 0x33 0x35 0x30)))
     (alone ++ (decidedPart 5 ++ (decidedPart 5 ++ decidedPart 5)))
     ∷ refusedSheet (bareHead 0x34 0x31) (0x46 ∷ 0x46 ∷ 0x31 ∷ 0x37 ∷ 0x30 ∷ 0x30 ∷ 0x30 ∷ 0x31 ∷ 0x0A ∷ [])
+    -- 02 b, the default 7. A dealer that is silent: all decide 7. One that says 05, 06 and 09: the root is unresolved, all decide 7
+    -- and list it. One whose frames to boards 2 and 3 are misfits: all decide 7.
+    ∷ sheet (fourHead 0x30 0x37 0x31) (sevenLines 0x30) sevenParts
+    ∷ sheet (fourHead 0x30 0x37 0x31 ++ (dealerLine 0x31 0x35 ++ (dealerLine 0x32 0x36 ++ dealerLine 0x33 0x39))) (sevenLines 0x31) sevenParts
+    ∷ sheet (fourHead 0x30 0x37 0x31 ++ (dealerLine 0x31 0x35 ++ (misfitLine 0x32 ++ misfitLine 0x33))) (sevenLines 0x30) sevenParts
+    -- a value below m, one of m, a misfit frame, a frame of a listed board
+    ∷ stored 16 7 0x00 (0x0F ∷ []) 0x0F
+    ∷ stored 16 7 0x00 (0x10 ∷ []) 7
+    ∷ stored 16 7 0x00 (0x05 ∷ 0x05 ∷ []) 7
+    ∷ stored 16 7 0x01 (0x05 ∷ []) 7
+    -- a masked board: nodes 0 1 2, 0 1 3 and 0 1 4 have 7, 7 and 5, so board 1 is listed, and 0 2 1 and 0 3 1 become the default, 6
+    ∷ gathered 6 (5 ∷ 7 ∷ 5 ∷ 7 ∷ 5 ∷ 7 ∷ 7 ∷ 5 ∷ 9 ∷ 5 ∷ 5 ∷ 9 ∷ 7 ∷ 7 ∷ 9 ∷ 9 ∷ 9 ∷ []) 0x02
+    (5 ∷ 7 ∷ 5 ∷ 7 ∷ 5 ∷ 7 ∷ 7 ∷ 5 ∷ 6 ∷ 5 ∷ 5 ∷ 6 ∷ 7 ∷ 7 ∷ 9 ∷ 9 ∷ 9 ∷ [])
+    -- a cell of m: 0 3 holds 16, and board 2 copies the default, 6, to its child 0 3 2
+    ∷ gathered 6 (5 ∷ 5 ∷ 5 ∷ 0x10 ∷ 5 ∷ 5 ∷ 5 ∷ 5 ∷ 5 ∷ 5 ∷ 5 ∷ 6 ∷ 9 ∷ 6 ∷ 9 ∷ 9 ∷ 9 ∷ []) 0x00
+    (5 ∷ 5 ∷ 5 ∷ 0x10 ∷ 5 ∷ 5 ∷ 5 ∷ 5 ∷ 5 ∷ 5 ∷ 5 ∷ 6 ∷ 6 ∷ 6 ∷ 9 ∷ 9 ∷ 9 ∷ [])
+    -- 26 after 7, before 8, and a default of m - 1; a sheet with a default of m, FF1A0001
+    ∷ refuse 4 (0x01 ∷ 0x02 ∷ 0x04 ∷ 0x08 ∷ []) 0 1 1 0 7
+    ∷ refuse 4 (0x01 ∷ 0x02 ∷ 0x04 ∷ 0x08 ∷ []) 0 16 16 0 26
+    ∷ refuse 4 (0x01 ∷ 0x02 ∷ 0x04 ∷ 0x08 ∷ []) 0 16 16 3 26
+    ∷ refuse 4 (0x01 ∷ 0x02 ∷ 0x04 ∷ 0x08 ∷ []) 0 16 15 3 8
+    ∷ refuse 4 (0x01 ∷ 0x02 ∷ 0x04 ∷ 0x08 ∷ []) 0 16 15 0 0
+    ∷ refusedSheet (fourHead 0x31 0x30 0x31) (0x46 ∷ 0x46 ∷ 0x31 ∷ 0x41 ∷ 0x30 ∷ 0x30 ∷ 0x30 ∷ 0x31 ∷ 0x0A ∷ [])
     ∷ []

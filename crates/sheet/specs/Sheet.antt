@@ -40,13 +40,16 @@ lines (c ∷ cs) =
 unfoldable pub lineBytes : Line → Option (List ℕ)
 lineBytes l = let bytes = bytesOf (l .text) in cond (l .ended) bytes none
 
--- 01: "The head is n, m, d, b, the dealer's value, s, then s sets, then F". Where each stands; m and the dealer's value have a
--- value's bytes, the others one. n stands at 0.
+-- 01: "The head is n, m, d, b, the dealer's value, s, then s sets, then F"; 02 b: a default, "in the head right after the
+-- span". Where each stands; m, the default and the dealer's value have a value's bytes, the others one. n stands at 0.
 abbrev pub spanPlace : ℕ
 spanPlace = 1
 
+abbrev pub defaultPlace : ℕ
+defaultPlace = spanPlace + width
+
 abbrev pub dealerPlace : ℕ
-dealerPlace = spanPlace + width
+dealerPlace = defaultPlace + width
 
 abbrev pub depthPlace : ℕ
 depthPlace = dealerPlace + 1
@@ -75,7 +78,12 @@ abbrev pub headSets : List ℕ → List ℕ
 headSets bytes = take (headCount bytes) (drop setsPlace bytes)
 
 abbrev pub headSettings : List ℕ → Settings
-headSettings bytes = record { dealer = getD bytes dealerPlace 0; span = numberAt bytes spanPlace; depth = getD bytes depthPlace 0 }
+headSettings bytes = record {
+  dealer = getD bytes dealerPlace 0;
+  span = numberAt bytes spanPlace;
+  default = numberAt bytes defaultPlace;
+  depth = getD bytes depthPlace 0;
+}
 
 abbrev pub headFaulty : List ℕ → ℕ
 headFaulty bytes = getD bytes (setsPlace + headCount bytes) 0
@@ -91,7 +99,7 @@ headOf bytes = record {
   word = headWord bytes;
 }
 
--- 01, 'Playing a sheet', head: 22; 1 to 8; 18; 23.
+-- 01, 'Playing a sheet', head: 22; 1 to 7, 26 (02 b), 8; 18; 23. 02 b: "a head has 8 + s bytes and number 22 reads so".
 unfoldable pub judgeHead : List ℕ → Outcome
 judgeHead bytes =
     let plan = planning (headBoards bytes) (headCount bytes) (headSets bytes) (headSettings bytes) in

@@ -6,8 +6,11 @@ use plan::plan::Plan;
 // The span, m.
 pub const SPAN: usize = 1;
 
+// The default.
+pub const DEFAULT: usize = SPAN + WIDTH;
+
 // The dealer, d.
-pub const DEALER: usize = SPAN + WIDTH;
+pub const DEALER: usize = DEFAULT + WIDTH;
 
 // The depth, b.
 pub const DEPTH: usize = DEALER + 1;

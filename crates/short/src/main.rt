@@ -7,7 +7,7 @@ use protocol::limits::OUTPUT;
 use reports::reporting::report;
 
 fn main() {
-    let text = b"0410000005040102040801\n0101000105\n0101000205\n0101000307\n";
+    let text = b"041000000005040102040801\n0101000105\n0101000205\n0101000307\n";
     let mut cells = [170u8; CELLS];
     let mut few_cells = [170u8; CELLS - 1];
     let mut out = [85u8; OUTPUT];

@@ -28,7 +28,7 @@ pub record Roomy (h : Head) (cells : List ℕ) : Type 0 where
 -- Stands past the end of the records.
 abbrev pub noRecord : Record
 noRecord = record {
-  plan = record { n = 0; dealer = 0; span = 0; depth = 0; count = 0; sets = [] };
+  plan = record { n = 0; dealer = 0; span = 0; default = 0; depth = 0; count = 0; sets = [] };
   board = 0;
   run = record { 0 = 0 };
   round = record { 0 = 0 };

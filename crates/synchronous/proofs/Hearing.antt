@@ -331,11 +331,11 @@ module _ (r : Record) (g : Good r) (undecided : r .decided ≡ false) (msg : ℕ
 
   -- A board's own child has its own cell.
   pub copied : (α : Label) (b : ℕ) → List·Memᴰ α (sent P₀ (r .board) (r .board) (r .round)) → IsLabel P₀ L₀ b α → (List·Memᴰ α (nodes P₀ (r .board) (r .round .0)) → ⊥)
-      → 0 < P₀ .span → read P₀ filled (r .board ∷ α) ≡ read P₀ cells α
+      → default P₀ < P₀ .span → read P₀ filled (r .board ∷ α) ≡ read P₀ cells α
   unfolding filled copyOwn frame read
-  copied α b m w out some-value =
+  copied α b m w out default-below =
       let own : cellAt (P₀ .n) filled (r .board ∷ α) ≡ value P₀ (read P₀ stored α) =
       stored-map P₀ L₀ (r .board) (r .round) low (r .board) (read P₀ stored) stored α (g .below) (rw stored-length room) m in
       let same : read P₀ stored α ≡ read P₀ cells α = ap (value P₀) (stored-outside b α w out) in
-      let small = read-small P₀ some-value cells α in
+      let small = read-small P₀ default-below cells α in
       ap (value P₀) (own ∙ ap (value P₀) same ∙ value-same P₀ (read P₀ cells α) small) ∙ value-same P₀ (read P₀ cells α) small

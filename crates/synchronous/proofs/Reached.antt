@@ -32,7 +32,7 @@ use Rattle.protocol.specs.Calls.{isTaken, judgeBoard, judgeCells, judgeOpen, ju
 use Rattle.protocol.proofs.Nodes.{sent-node, node-label, node-length, root-node}
 use Rattle.protocol.proofs.Fill.{IsLabel, fill-other, fill-length}
 use Rattle.synchronous.proofs.Local.{gather-outside, gather-length}
-use Rattle.protocol.proofs.Judgement.{is-taken, taken-is, plan-facts, Good, good-dealer, Open, open-facts, cells-facts, board-facts}
+use Rattle.protocol.proofs.Judgement.{is-taken, taken-is, plan-default, Good, good-dealer, Open, open-facts, cells-facts, board-facts}
 use Rattle.protocol.proofs.Listing.{insert-below}
 use Rattle.protocol.proofs.Bounds.{gather-below, levels-below, root-small}
 use Rattle.protocol.proofs.Turns.{frame-stored, decides-root, begun-length, begun-blank}
@@ -93,11 +93,10 @@ unfolding convert runEnded
 convert-good b s g d =
     let r = b .rec in
     let p = r .plan in
-    let two = plan-facts p (g .plan-good) .two-values in
     let listed-below = levels-below p (good-dealer r g) (r .board) (r .run) (r .round) (s .cells) (rounds p .0 - 1) (s .list) d in
     cases (eqb (r .run .0) (runs p .0))
     (λ e. let small : convert b s .rec .decision < p .span =
-    subst {A = ℕ} (λ v. v < p .span) (sym (decides-root b s e)) (root-small p (omega arith) (r .board) (s .cells)) in
+    subst {A = ℕ} (λ v. v < p .span) (sym (decides-root b s e)) (root-small p (plan-default p (g .plan-good)) (r .board) (s .cells)) in
     rw e (record {
       plan-good = g .plan-good;
       below = g .below;

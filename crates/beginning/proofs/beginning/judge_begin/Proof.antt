@@ -1,4 +1,4 @@
--- `judge_begin` meets its contract: 1 to 8, then 9, 10, 11.
+-- `judge_begin` meets its contract: 1 to 7, 26, 8, then 9, 10, 11.
 -- Assumes nothing.
 use mathlib.Core.Path.{ap₂, _∙_}
 use borrow.Author.Needs.{needs}

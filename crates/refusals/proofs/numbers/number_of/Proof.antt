@@ -98,10 +98,15 @@ returns-23 : tie.Need-returns-23
 unfolding refusal
 returns-23 c = sym (ap (λ r. refusal r .number) (c .enum-told23 .given .1))
 
+returns-24 : tie.Need-returns-24
+unfolding refusal
+returns-24 c = sym (ap (λ r. refusal r .number) (c .enum-told24 .given .1))
+
 pub number-of-spec : {M : Type 1} → statement M
 number-of-spec =
     tie.close
     (tie.spec
+    (λ c. search needs)
     (λ c. search needs)
     (λ c. search needs)
     (λ c. search needs)
@@ -147,4 +152,5 @@ number-of-spec =
     returns-20
     returns-21
     returns-22
-    returns-23)
+    returns-23
+    returns-24)
