@@ -33,11 +33,12 @@ for sheet in tests/cases/*.sheet; do
     play "$name" "$sheet" "tests/cases/$name.out"
 done
 
-# Case 7 with so many values from the dealer to board 3 that the sheet has 65,536 bytes. The frame counts as 0.
+# Case 7 with so many values from the dealer to board 3 that the sheet has 65,536 bytes. That frame counts as the
+# default, which is 0.
 {
     head -n 3 tests/cases/case-7.sheet
     printf 01010003
-    head -c 65482 /dev/zero | tr '\0' 7
+    head -c 65480 /dev/zero | tr '\0' 7
     echo
 } >"$folder/longest"
 made longest 65536 '010500\n020500\n030500\n'

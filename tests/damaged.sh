@@ -38,15 +38,19 @@ hurt swapped-lines $deep sed '4{h;d;};5G'
 hurt doubled-line $long sed '30p'
 hurt empty-line $wide sed '7s/^/\n/'
 hurt empty-lines-last $wide sh -c 'cat; echo; echo'
-hurt short-head $deep sed '1s/^\(............\).*/\1/'
+hurt short-head $deep sed '1s/^\(..............\).*/\1/'
 hurt no-head $deep sed 1d
 hurt byte-00 $long tr 5 '\000'
 hurt byte-FF $deep tr 7 '\377'
 hurt more-values $deep sed '3,8s/$/FFFEFD00FF0102030405060708090A0B0C0D0E0F/'
-hurt no-sets $deep sed '1s/.*/07020004000000/'
-hurt no-sets-no-frames $deep sed -n '1s/.*/07020004000000/p'
-hurt many-sets $deep sh -c 'printf 0702000400FF; head -c 512 /dev/zero | tr "\0" 0; echo; tail -n +2'
+hurt no-sets $deep sed '1s/.*/0702000004000000/'
+hurt no-sets-no-frames $deep sed -n '1s/.*/0702000004000000/p'
+hurt many-sets $deep sh -c 'printf 070200000400FF; head -c 512 /dev/zero | tr "\0" 0; echo; tail -n +2'
 hurt eight-boards $deep sed '1s/^07/08/'
+hurt other-default $long sed '1s/^070200/070201/'
+hurt default-for-values $deep sed '1s/^070200/07FFFE/;2,9s/^\(........\).*/\1/'
+hurt default-of-span $deep sed '1s/^070200/070202/'
+hurt no-default $deep sed '1s/^070200/0702/'
 hurt nonsense $deep head -c 3000 target/bin/bench
 
 played=0

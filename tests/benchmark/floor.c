@@ -14,7 +14,7 @@
 enum { BOARDS = 7, SETS = 32, LONGEST = 65536, WIDEST = 720, NONE = 255 };
 
 // The plan.
-static int n, span, dealer, depth, value, faulty, all;
+static int n, span, default_value, dealer, depth, value, faulty, all;
 static int rounds, runs;
 static uint64_t tolerated_sets[2];
 
@@ -177,7 +177,7 @@ static void detect(int board, int round)
         list |= 1 << last;
         const Report *report = &reports[round][last];
         for (int i = 0; i < report->count; i++)
-            to[report->to[i]] = 0;
+            to[report->to[i]] = default_value;
     }
     lists[board] = list;
 }
@@ -204,16 +204,16 @@ static void convert(int board)
         }
     }
     if (cells[board][1][0] == NONE)
-        cells[board][1][0] = 0;
+        cells[board][1][0] = default_value;
     lists[board] = list;
 }
 
 // Playing
 
-// What the boards outside F send, which each of them also has of itself; 0 for all others.
+// What the boards outside F send, which each of them also has of itself; the default for all others.
 static void fill(uint8_t *row, int round, int keepers)
 {
-    memset(row, 0, levels[round].nodes);
+    memset(row, default_value, levels[round].nodes);
     for (; keepers; keepers &= keepers - 1) {
         int board = __builtin_ctz(keepers);
         const Report *report = &reports[round][board];
@@ -233,7 +233,7 @@ static void store(const Line *line)
     if (line->count != report->count || has(lists[receiver], sender))
         return;
     for (int i = 0; i < report->count; i++)
-        to[report->to[i]] = from[i] < span ? from[i] : 0;
+        to[report->to[i]] = from[i] < span ? from[i] : default_value;
 }
 
 static void play(int keepers)
@@ -244,7 +244,7 @@ static void play(int keepers)
     for (int run = 1; run <= runs; run++) {
         for (int round = run == 1 ? 1 : 2; round <= rounds; round++) {
             if (round == 1)
-                row[0] = has(faulty, dealer) ? 0 : value;
+                row[0] = has(faulty, dealer) ? default_value : value;
             else
                 fill(row, round, keepers);
             for (int rest = keepers; rest; rest &= rest - 1)
@@ -317,11 +317,12 @@ static int decode(const uint8_t **from, uint8_t *to)
 // The number that the head meets, or 0 and the plan.
 static int judge_head(const uint8_t *head, int count)
 {
-    if (count < 7 || count != 7 + head[5])
+    if (count < 8 || count != 8 + head[6])
         return 22;
-    const uint8_t *sets = head + 6;
-    int set_count = head[5], named = 0;
-    n = head[0], span = head[1], dealer = head[2], depth = head[3], value = head[4], faulty = head[count - 1];
+    const uint8_t *sets = head + 7;
+    int set_count = head[6], named = 0;
+    n = head[0], span = head[1], default_value = head[2], dealer = head[3], depth = head[4], value = head[5];
+    faulty = head[count - 1];
     if (n == 0 || n > BOARDS)
         return 1;
     all = (1 << n) - 1;
@@ -338,6 +339,8 @@ static int judge_head(const uint8_t *head, int count)
         return 6;
     if (span < 2)
         return 7;
+    if (default_value >= span)
+        return 26;
     if ((depth && depth < 4) || depth > 7)
         return 8;
     if (value >= span)

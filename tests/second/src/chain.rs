@@ -3,6 +3,7 @@
 //!
 //! One healthy board, the pillar, lies in no listed set; the other healthy boards, the side,
 //! lie in a set without it. Faulty boards elsewhere tell what the pillar has.
+//! Values are told as for the default 0; with the default 1 both are swapped.
 
 use crate::plan::{all, set_of, Plan, Set};
 use crate::prng::Prng;
@@ -16,6 +17,7 @@ struct Cast {
     chain: Vec<u8>,
     side: Vec<u8>,
     pillar: u8,
+    default: u8,
 }
 
 impl Cast {
@@ -30,6 +32,7 @@ impl Cast {
             chain: boards,
             pillar: side[0],
             side: side[1..].to_vec(),
+            default: rng.pick(&[0, 0, 1]),
         }
     }
 
@@ -43,6 +46,7 @@ impl Cast {
             sets,
             dealer: self.chain[0],
             span: 2,
+            default: self.default,
             depth,
         }
     }
@@ -51,9 +55,9 @@ impl Cast {
     fn tell(&self, lies: &mut Lies, run: u8, node: &[usize], side: u8, pillar: u8) {
         let label: Vec<u8> = node.iter().map(|i| self.chain[*i]).collect();
         for board in &self.side {
-            lies.insert((run, label.clone(), *board), side);
+            lies.insert((run, label.clone(), *board), side ^ self.default);
         }
-        lies.insert((run, label, self.pillar), pillar);
+        lies.insert((run, label, self.pillar), pillar ^ self.default);
     }
 }
 

@@ -31,13 +31,18 @@ impl Keeper {
         self.mistake == Some(mistake)
     }
 
+    /// A byte taken as a value; the mistake puts 0 for the default here.
+    fn as_value(&self, tree: &Tree, byte: Option<u8>, mistake: Mistake) -> u8 {
+        tree.plan.value(byte, self.makes(mistake))
+    }
+
     /// A cell read as a value.
     pub fn value(&self, tree: &Tree, label: &[u8]) -> u8 {
         let cell = self.cells[label];
-        if cell < tree.plan.span || self.makes(Mistake::RawRead) {
+        if self.makes(Mistake::RawRead) {
             cell
         } else {
-            0
+            self.as_value(tree, Some(cell), Mistake::CellIsZero)
         }
     }
 
@@ -52,26 +57,31 @@ impl Keeper {
         let nodes = tree.reported(round, sender);
         let listed = has(self.list, sender) && !self.makes(Mistake::ListedFrameKept);
         let values = match frame {
-            Some(frame) if !listed => self.accepted(tree, frame, nodes.len()),
-            _ => vec![0; nodes.len()],
+            _ if listed => self.no_values(tree, nodes.len(), Mistake::ListedIsZero),
+            Some(frame) => self.accepted(tree, frame, nodes.len()),
+            None => self.no_values(tree, nodes.len(), Mistake::MissingIsZero),
         };
         for (label, value) in nodes.iter().zip(values) {
             self.cells.insert(child(label, sender), value);
         }
     }
 
+    /// What is stored for a frame that does not count.
+    fn no_values(&self, tree: &Tree, wanted: usize, mistake: Mistake) -> Vec<u8> {
+        vec![self.as_value(tree, None, mistake); wanted]
+    }
+
     /// The values of a frame as they are stored.
     fn accepted(&self, tree: &Tree, frame: &[u8], wanted: usize) -> Vec<u8> {
-        let mut values = frame.to_vec();
-        if !self.fits(values.len(), wanted) {
-            values.clear();
+        if !self.fits(frame.len(), wanted) {
+            return self.no_values(tree, wanted, Mistake::MisfitIsZero);
         }
-        values.resize(wanted, 0);
         let raw = self.makes(Mistake::RawStored) || self.makes(Mistake::RawRead);
-        for value in values.iter_mut().filter(|v| **v >= tree.plan.span && !raw) {
-            *value = 0;
-        }
-        values
+        let stored = |place: usize| match frame.get(place) {
+            Some(value) if raw => *value,
+            value => self.as_value(tree, value.copied(), Mistake::BeyondIsZero),
+        };
+        (0..wanted).map(stored).collect()
     }
 
     /// Whether a frame's length is the one that is due.
@@ -87,8 +97,11 @@ impl Keeper {
     /// The board's own children get its own cells.
     fn copy_own(&mut self, tree: &Tree, round: usize) {
         for label in tree.reported(round, self.board) {
-            let silent = self.makes(Mistake::OwnChildSilent);
-            let value = if silent { 0 } else { self.value(tree, &label) };
+            let value = if self.makes(Mistake::OwnChildSilent) {
+                tree.plan.value(None, false)
+            } else {
+                self.value(tree, &label)
+            };
             self.cells.insert(child(&label, self.board), value);
         }
     }
@@ -140,13 +153,14 @@ impl Keeper {
         tree.children(label).map(|q| (q, value(q))).collect()
     }
 
-    /// Cells of this round's level that end in a board just listed become 0.
+    /// Cells of this round's level that end in a board just listed become the default.
     fn mask(&mut self, tree: &Tree, round: usize, last: u8) {
         if self.makes(Mistake::NoMaskSameRound) {
             return;
         }
+        let masked = self.as_value(tree, None, Mistake::MaskedIsZero);
         for label in tree.level(round).iter().filter(|l| l.last() == Some(&last)) {
-            self.cells.insert(label.clone(), 0);
+            self.cells.insert(label.clone(), masked);
         }
     }
 
@@ -159,7 +173,8 @@ impl Keeper {
             self.rule_c(tree, &resolved);
         }
         let root = vec![tree.plan.dealer];
-        let value = resolved[&root].unwrap_or(0);
+        let unresolved = self.as_value(tree, None, Mistake::RootIsZero);
+        let value = resolved[&root].unwrap_or(unresolved);
         self.cells = HashMap::from([(root, value)]);
         self.resolved = resolved;
         if self.makes(Mistake::ListCleared) && run < tree.plan.runs() {
@@ -194,11 +209,9 @@ impl Keeper {
         let mut fitting = (0..tree.plan.span).filter(supported);
         let first = fitting.next();
         let unique = self.makes(Mistake::FirstValueWins) || fitting.next().is_none();
-        let none = if self.makes(Mistake::NoneIsZero) {
-            Some(0)
-        } else {
-            None
-        };
+        let none = self
+            .makes(Mistake::NoneIsDefault)
+            .then(|| tree.plan.value(None, false));
         first.filter(|_| unique).or(none)
     }
 

@@ -62,6 +62,11 @@ fn plan(rng: &mut Prng) -> Plan {
         4 => 16,
         _ => 2 + rng.below(4) as u8,
     };
+    let default = match rng.below(6) {
+        0..=2 => 0,
+        3 => span - 1,
+        _ => rng.below(span as usize) as u8,
+    };
     let dealer = rng.below(n as usize) as u8;
     let depth = rng.pick(&[0, 4, 4, 4, 5, 6, 7]);
     Plan {
@@ -69,6 +74,7 @@ fn plan(rng: &mut Prng) -> Plan {
         sets,
         dealer,
         span,
+        default,
         depth,
     }
 }
@@ -243,7 +249,7 @@ impl Adversary for Liar<'_> {
 
 // Damage
 
-/// A sheet with another head: it meets one of 22, 1, 3 to 8, 18 and 23, or more than one, or has no sets.
+/// A sheet with another head: it meets one of 22, 1, 3 to 7, 26, 8, 18 and 23, or more than one, or has no sets.
 fn bad_head(rng: &mut Prng) -> Vec<u8> {
     let sheet = good(rng);
     let mut lines = sheet.lines();
@@ -259,30 +265,47 @@ fn bad_head(rng: &mut Prng) -> Vec<u8> {
 
 fn hurt_head(head: &mut Vec<u8>, plan: &Plan, rng: &mut Prng) {
     let last = head.len() - 1;
-    match rng.below(14) {
+    match rng.below(17) {
         0 => head[0] = rng.pick(&[0, 8, 9, 255]),
         1 if last > 1 => head[1] = rng.pick(&[0, 1]),
-        2 if last > 2 => head[2] = plan.n + rng.below(3) as u8,
-        3 if last > 3 => head[3] = rng.pick(&[1, 2, 3, 8, 9, 128, 132, 255]),
-        4 if last > 4 => head[4] = head[1].saturating_add(rng.below(3) as u8),
-        5 => {
+        2 if last > 2 => raise_default(head, rng),
+        3 if last > 3 => head[3] = plan.n + rng.below(3) as u8,
+        4 if last > 4 => head[4] = rng.pick(&BAD_DEPTHS),
+        5 if last > 5 => head[5] = head[1].saturating_add(rng.below(3) as u8),
+        6 => {
             swap_sets(head, &[]);
             if rng.chance(1, 2) {
                 *head.last_mut().unwrap() = 0;
             }
         }
-        6 => swap_sets(head, &vec![0; 33 + rng.below(3)]),
-        7 => swap_sets(head, &vec![rng.byte(); 1 + rng.below(3)]),
-        8 => swap_sets(head, &covering(plan.n, rng)),
-        9 => head[last] = rng.byte() & all(plan.n),
-        10 => head[last] = rng.byte(),
-        11 => head.truncate(rng.below(head.len() + 1).max(1)),
-        12 if last > 4 => {
-            head[4] = head[1];
+        7 => swap_sets(head, &vec![0; 33 + rng.below(3)]),
+        8 => swap_sets(head, &vec![rng.byte(); 1 + rng.below(3)]),
+        9 => swap_sets(head, &covering(plan.n, rng)),
+        10 => head[last] = rng.byte() & all(plan.n),
+        11 => head[last] = rng.byte(),
+        12 => head.truncate(rng.below(head.len() + 1).max(1)),
+        13 if last > 5 => {
+            head[5] = head[1];
             head[last] = rng.byte();
+        }
+        14 if last > 2 => {
+            head[1] = rng.pick(&[0, 1]);
+            raise_default(head, rng);
+        }
+        15 if last > 4 => {
+            raise_default(head, rng);
+            head[4] = rng.pick(&BAD_DEPTHS);
         }
         _ => head.push(rng.byte()),
     }
+}
+
+/// Depths that meet number 8.
+const BAD_DEPTHS: [u8; 8] = [1, 2, 3, 8, 9, 128, 132, 255];
+
+/// Gives a head a default that is not below its span.
+fn raise_default(head: &mut [u8], rng: &mut Prng) {
+    head[2] = head[1].saturating_add(rng.pick(&[0, 0, 1, 2, 255]));
 }
 
 /// One to three sets that cover all boards, at times with others.
@@ -299,9 +322,9 @@ fn covering(n: u8, rng: &mut Prng) -> Vec<Set> {
 
 /// Gives a head other sets.
 fn swap_sets(head: &mut Vec<u8>, sets: &[Set]) {
-    if head.len() >= 7 {
+    if head.len() >= 8 {
         let faulty = head[head.len() - 1];
-        head.truncate(5);
+        head.truncate(6);
         head.push(sets.len() as u8);
         head.extend(sets);
         head.push(faulty);

@@ -10,7 +10,7 @@ pub enum Mistake {
     GWithoutList,
     /// Rule C without the list.
     CWithoutList,
-    /// The own child gets 0, as if the board had been silent.
+    /// The own child gets the default, as if the board had been silent.
     OwnChildSilent,
     /// Every run starts with an empty list.
     ListCleared,
@@ -22,11 +22,11 @@ pub enum Mistake {
     ListedFrameKept,
     /// A frame that is too long is cut.
     OverlongCut,
-    /// A frame that is too short is filled up with 0.
+    /// A frame that is too short is filled up with the default.
     ShortFilled,
     /// The length of a frame is counted in one byte: 256 values more are not noticed.
     LengthInAByte,
-    /// A value of m or more is stored as it came, and counts as 0 when read.
+    /// A value of m or more is stored as it came, and counts as the default when read.
     RawStored,
     /// A value of m or more is stored and read as it came.
     RawRead,
@@ -40,8 +40,8 @@ pub enum Mistake {
     NoGInLastRound,
     /// Both rules use the list as it stood when the rule began.
     ListFrozen,
-    /// An unresolved node counts as 0 below the root too.
-    NoneIsZero,
+    /// An unresolved node counts as the default below the root too.
+    NoneIsDefault,
     /// The least fitting value resolves a node, unique or not.
     FirstValueWins,
     /// The last run of a cut tree converts without rule C.
@@ -56,10 +56,30 @@ pub enum Mistake {
     CoverByAll,
     /// Number 23 is judged before 18.
     FaultyBeforeValue,
+    /// Number 26 is judged before 7.
+    DefaultBeforeSpan,
+    /// Number 26 is judged after 8.
+    DefaultAfterDepth,
+    /// A default of m is accepted.
+    DefaultOfSpan,
+    /// A missing frame counts as 0, not as the default.
+    MissingIsZero,
+    /// A frame from a listed board counts as 0.
+    ListedIsZero,
+    /// The cells of this round from a board that rule G lists become 0.
+    MaskedIsZero,
+    /// A frame of another length counts as 0.
+    MisfitIsZero,
+    /// A value of m or more in a frame counts as 0.
+    BeyondIsZero,
+    /// A cell of m or more counts as 0.
+    CellIsZero,
+    /// An unresolved root becomes 0.
+    RootIsZero,
 }
 
 impl Mistake {
-    pub const ALL: [Mistake; 27] = [
+    pub const ALL: [Mistake; 37] = [
         Mistake::CachedValue,
         Mistake::CachedVerdict,
         Mistake::GWithoutList,
@@ -79,7 +99,7 @@ impl Mistake {
         Mistake::CUpwards,
         Mistake::NoGInLastRound,
         Mistake::ListFrozen,
-        Mistake::NoneIsZero,
+        Mistake::NoneIsDefault,
         Mistake::FirstValueWins,
         Mistake::CutLastRunWithoutC,
         Mistake::CoverByTwo,
@@ -87,11 +107,22 @@ impl Mistake {
         Mistake::CoverByFirst,
         Mistake::CoverByAll,
         Mistake::FaultyBeforeValue,
+        Mistake::DefaultBeforeSpan,
+        Mistake::DefaultAfterDepth,
+        Mistake::DefaultOfSpan,
+        Mistake::MissingIsZero,
+        Mistake::ListedIsZero,
+        Mistake::MaskedIsZero,
+        Mistake::MisfitIsZero,
+        Mistake::BeyondIsZero,
+        Mistake::CellIsZero,
+        Mistake::RootIsZero,
     ];
 
-    /// Mistakes that no sheet can show: the cells differ, what is printed does not.
+    /// Mistakes that no sheet can show: with `RawStored` cells differ, what is printed does not; `CellIsZero` is about
+    /// cells of m or more, which no sheet leads to.
     pub fn hidden(self) -> bool {
-        self == Mistake::RawStored
+        matches!(self, Mistake::RawStored | Mistake::CellIsZero)
     }
 
     /// The mistakes that a sheet tells from the right engine, accepted or refused.

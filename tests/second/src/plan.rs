@@ -33,6 +33,8 @@ pub struct Plan {
     pub sets: Vec<Set>,
     pub dealer: u8,
     pub span: u8,
+    /// The value that is put where there is none.
+    pub default: u8,
     pub depth: u8,
 }
 
@@ -43,17 +45,26 @@ impl Plan {
     }
 
     pub fn refusal_with(&self, mistake: Option<Mistake>) -> Option<u8> {
-        admit_with(self.n, &self.sets, mistake).err().or({
-            if self.dealer >= self.n {
-                Some(6)
-            } else if self.span < 2 {
-                Some(7)
-            } else if matches!(self.depth, 1..=3) || self.depth > 7 {
-                Some(8)
-            } else {
-                None
-            }
-        })
+        let dealer = (6, self.dealer >= self.n);
+        let span = (7, self.span < 2);
+        let of_span = mistake == Some(Mistake::DefaultOfSpan) && self.default == self.span;
+        let default = (26, self.default >= self.span && !of_span);
+        let depth = (8, matches!(self.depth, 1..=3) || self.depth > 7);
+        let judged = match mistake {
+            Some(Mistake::DefaultBeforeSpan) => [dealer, default, span, depth],
+            Some(Mistake::DefaultAfterDepth) => [dealer, span, depth, default],
+            _ => [dealer, span, default, depth],
+        };
+        let first = judged.into_iter().find(|(_, met)| *met);
+        let sets = admit_with(self.n, &self.sets, mistake);
+        sets.err().or(first.map(|(number, _)| number))
+    }
+
+    /// A byte taken as a value: the default if there is none or if it is m or more; 0 for the default if `zero`, which
+    /// only a mistake asks for.
+    pub fn value(&self, byte: Option<u8>, zero: bool) -> u8 {
+        let default = if zero { 0 } else { self.default };
+        byte.filter(|b| *b < self.span).unwrap_or(default)
     }
 
     pub fn tolerated(&self, set: Set) -> bool {

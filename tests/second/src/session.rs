@@ -4,7 +4,7 @@ use crate::keeper::Keeper;
 use crate::mistake::Mistake;
 use crate::plan::{has, Label, Plan, Set, Tree};
 use crate::sheet::{Sheet, Slot};
-use std::collections::BTreeMap;
+use std::collections::{BTreeMap, BTreeSet};
 
 pub type Keepers = BTreeMap<u8, Keeper>;
 
@@ -35,12 +35,23 @@ pub struct Outcome {
     pub roots: Vec<Vec<u8>>,
     /// Their lists after each run.
     pub lists: Vec<Vec<Set>>,
+    /// All bytes that stand in frames of faulty boards.
+    pub told: BTreeSet<u8>,
 }
 
 impl Outcome {
     pub fn print(&self) -> String {
         let line = |(b, v, l): &(u8, u8, Set)| format!("{b:02X}{v:02X}{l:02X}\n");
         self.decided.iter().map(line).collect()
+    }
+
+    /// Whether a default other than 0 was decided, and nobody told it: the dealer is faulty, no faulty frame has it.
+    pub fn default_shows(&self) -> bool {
+        let default = self.plan.default;
+        default != 0
+            && has(self.faulty, self.plan.dealer)
+            && !self.told.contains(&default)
+            && self.decided.iter().any(|(_, v, _)| *v == default)
     }
 
     /// Whether the roots differ after a run, counted from 1.
@@ -82,10 +93,11 @@ pub fn play(
     let healthy: Vec<u8> = (0..plan.n).filter(|b| !has(faulty, *b)).collect();
     let keeping = healthy.iter().filter(|b| **b != plan.dealer);
     let mut keepers: Keepers = keeping.map(|b| (*b, Keeper::new(*b, mistake))).collect();
-    let (mut roots, mut lists) = (vec![], vec![]);
+    let (mut roots, mut lists, mut told) = (vec![], vec![], BTreeSet::new());
     for run in 1..=plan.runs() {
         for round in Plan::first_round(run)..=plan.rounds() {
-            exchange(&tree, value, faulty, run, round, &mut keepers, adversary);
+            let faulty_frames = exchange(&tree, value, faulty, run, round, &mut keepers, adversary);
+            told.extend(faulty_frames);
         }
         keepers.values_mut().for_each(|k| k.convert(&tree, run));
         roots.push(
@@ -109,10 +121,11 @@ pub fn play(
         decided: healthy.iter().map(decide).collect(),
         roots,
         lists,
+        told,
     }
 }
 
-/// One round: all frames are made, then stored, then every keeper closes.
+/// One round: all frames are made, then stored, then every keeper closes. Gives the bytes of all faulty frames.
 fn exchange(
     tree: &Tree,
     value: u8,
@@ -121,8 +134,9 @@ fn exchange(
     round: usize,
     keepers: &mut Keepers,
     adversary: &mut dyn Adversary,
-) {
+) -> BTreeSet<u8> {
     let mut frames: Vec<(u8, u8, Option<Vec<u8>>)> = vec![];
+    let mut told = BTreeSet::new();
     for sender in 0..tree.plan.n {
         let nodes = tree.reported(round, sender);
         for receiver in keepers.keys().copied() {
@@ -148,6 +162,10 @@ fn exchange(
     for (sender, receiver, frame) in frames {
         let keeper = keepers.get_mut(&receiver).unwrap();
         keeper.store(tree, round, sender, frame.as_deref());
+        if has(faulty, sender) {
+            told.extend(frame.into_iter().flatten());
+        }
     }
     keepers.values_mut().for_each(|k| k.close(tree, round));
+    told
 }

@@ -90,19 +90,22 @@ fn digit(c: u8) -> Result<u8, u8> {
     }
 }
 
-/// The head: n, m, d, b, the dealer's value, s, the sets, F.
+/// The head: n, m, the default, d, b, the dealer's value, s, the sets, F.
 fn head(bytes: &[u8], mistake: Option<Mistake>) -> Result<Sheet, u8> {
-    if bytes.len() < 7 || bytes.len() != 7 + bytes[5] as usize {
+    let [n, span, default, dealer, depth, value, count, ref rest @ ..] = *bytes else {
+        return Err(22);
+    };
+    let (faulty, sets) = rest.split_last().ok_or(22)?;
+    if sets.len() != count as usize {
         return Err(22);
     }
-    let (n, span, dealer, depth, value) = (bytes[0], bytes[1], bytes[2], bytes[3], bytes[4]);
-    let sets = bytes[6..bytes.len() - 1].to_vec();
-    let faulty = bytes[bytes.len() - 1];
+    let (faulty, sets) = (*faulty, sets.to_vec());
     let plan = Plan {
         n,
         sets,
         dealer,
         span,
+        default,
         depth,
     };
     if let Some(number) = plan.refusal_with(mistake) {
@@ -154,6 +157,7 @@ impl Sheet {
         let mut bytes = vec![
             p.n,
             p.span,
+            p.default,
             p.dealer,
             p.depth,
             self.value,
@@ -182,8 +186,8 @@ impl Sheet {
 
 /// A sheet with s = 00, good or not, with the one set 00 in its stead; nothing for others and if that is too long.
 pub fn with_set_00(text: &[u8]) -> Option<Vec<u8>> {
-    let no_sets = text.get(10..12)? == b"00" && !text[..10].contains(&b'\n');
-    let longer = [&text[..10], b"0100", &text[12..]].concat();
+    let no_sets = text.get(12..14)? == b"00" && !text[..12].contains(&b'\n');
+    let longer = [&text[..12], b"0100", &text[14..]].concat();
     (no_sets && longer.len() <= LONGEST).then_some(longer)
 }
 

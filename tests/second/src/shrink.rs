@@ -3,14 +3,14 @@
 use crate::plan::{has, set_of};
 use crate::sheet::{read, Sheet};
 
-/// The smallest sheet found by dropping lines, faulty boards and sets, and by clearing values.
+/// The smallest sheet found by dropping lines, faulty boards and sets, by lowering the head, and by clearing values.
 pub fn shrink(mut sheet: Sheet, shows: &dyn Fn(&Sheet) -> bool) -> Sheet {
     loop {
         let before = sheet.clone();
         drop_lines(&mut sheet, shows);
         drop_boards(&mut sheet, shows);
         drop_sets(&mut sheet, shows);
-        lower_span(&mut sheet, shows);
+        lower_head(&mut sheet, shows);
         clear_values(&mut sheet, shows);
         if sheet.lines() == before.lines() {
             return sheet;
@@ -53,7 +53,10 @@ fn drop_sets(sheet: &mut Sheet, shows: &dyn Fn(&Sheet) -> bool) {
     }
 }
 
-fn lower_span(sheet: &mut Sheet, shows: &dyn Fn(&Sheet) -> bool) {
+fn lower_head(sheet: &mut Sheet, shows: &dyn Fn(&Sheet) -> bool) {
+    for default in 0..sheet.plan.default.min(2) {
+        attempt(sheet, shows, |s| s.plan.default = default);
+    }
     for span in 2..sheet.plan.span.min(8) {
         attempt(sheet, shows, |s| s.plan.span = span);
     }

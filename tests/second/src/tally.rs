@@ -5,7 +5,7 @@ use crate::sheet::Refusal;
 use std::collections::BTreeMap;
 
 /// The refusals that a sheet can meet, rising.
-pub const NUMBERS: [u8; 13] = [1, 3, 4, 5, 6, 7, 8, 18, 20, 21, 22, 23, 24];
+pub const NUMBERS: [u8; 14] = [1, 3, 4, 5, 6, 7, 8, 18, 20, 21, 22, 23, 24, 26];
 
 /// Depth, boards and run after which roots can still be unequal.
 pub const SPLITS: [(u8, u8, usize); 4] = [(4, 6, 1), (4, 7, 1), (5, 7, 1), (4, 7, 2)];
@@ -16,6 +16,9 @@ pub struct Tally {
     pub accepted: usize,
     /// Unequal roots where none are possible.
     pub impossible: usize,
+    /// Accepted sheets with a default other than 0, and those of them that decide it though nobody told it.
+    pub defaults: usize,
+    pub shown: usize,
     /// Accepted sheets with no sets, by their boards.
     no_sets: BTreeMap<u8, usize>,
     refused: BTreeMap<u8, usize>,
@@ -33,6 +36,8 @@ impl Tally {
 
     fn count_accepted(&mut self, outcome: &Outcome) {
         self.accepted += 1;
+        self.defaults += usize::from(outcome.plan.default != 0);
+        self.shown += usize::from(outcome.default_shows());
         if outcome.plan.sets.is_empty() {
             *self.no_sets.entry(outcome.plan.n).or_default() += 1;
         }
@@ -49,17 +54,20 @@ impl Tally {
         self.sheets += other.sheets;
         self.accepted += other.accepted;
         self.impossible += other.impossible;
+        self.defaults += other.defaults;
+        self.shown += other.shown;
         join(&mut self.no_sets, other.no_sets);
         join(&mut self.refused, other.refused);
         join(&mut self.split, other.split);
     }
 
-    /// Whether every number, every kind of unequal roots and an accepted sheet with no sets were met, and no other
-    /// number and no impossible roots.
+    /// Whether every number, every kind of unequal roots, an accepted sheet with no sets and one that decides a default
+    /// other than 0 which nobody told were met, and no other number and no impossible roots.
     pub fn full(&self) -> bool {
         self.refused.keys().eq(&NUMBERS)
             && SPLITS.iter().all(|s| self.split.contains_key(s))
             && !self.no_sets.is_empty()
+            && self.shown > 0
             && self.impossible == 0
     }
 
@@ -67,6 +75,8 @@ impl Tally {
         println!("sheets {}, accepted {}", self.sheets, self.accepted);
         let boards = counts(1..=7, &self.no_sets);
         println!("accepted with no sets, by n  {boards}");
+        let (defaults, shown) = (self.defaults, self.shown);
+        println!("accepted with a default other than 0  {defaults}, decided though nobody told it: {shown}");
         let met = |n: &u8| NUMBERS.contains(n) || self.refused.contains_key(n);
         let numbers = counts((0..=u8::MAX).filter(met), &self.refused);
         println!("refusals  {numbers}");

@@ -9,6 +9,7 @@ fn plan(n: u8, sets: &[u8], dealer: u8, depth: u8) -> Plan {
         sets: sets.to_vec(),
         dealer,
         span: 16,
+        default: 0,
         depth,
     }
 }
@@ -25,7 +26,7 @@ fn prints(sheet: &str, printed: &str) {
 fn case_1_three_sets_cover() {
     assert_eq!(admit(3, &[1, 2, 4]), Err(5));
     assert_eq!(first_cover(3, &[1, 2, 4]), Some((0, 1, 2)));
-    prints("03100000050301020400\n", "FF050001\n");
+    prints("0310000000050301020400\n", "FF050001\n");
 }
 
 #[test]
@@ -49,8 +50,8 @@ fn case_4_one_board() {
         (admit(1, &[1]), first_cover(1, &[1])),
         (Err(5), Some((0, 0, 0)))
     );
-    prints("0110000005010000\n", "000500\n");
-    prints("0110000005010100\n", "FF050001\n");
+    prints("011000000005010000\n", "000500\n");
+    prints("011000000005010100\n", "FF050001\n");
 }
 
 #[test]
@@ -64,33 +65,33 @@ fn case_5_runs_and_rounds() {
     assert_eq!(counts(5), (7, 3, 13));
     assert_eq!((counts(0), counts(7)), ((7, 1, 7), (7, 1, 7)));
     assert_eq!(plan(7, &[0x3F], 0, 3).refusal(), Some(8));
-    prints("0710000305013F00\n", "FF080001\n");
+    prints("071000000305013F00\n", "FF080001\n");
 }
 
 #[test]
 fn case_6_root_is_a_leaf() {
     let plan = plan(7, &[0x3F], 6, 0);
     assert_eq!((plan.height(), plan.runs(), plan.rounds()), (1, 1, 1));
-    prints("0710060005013F3F\n", "060500\n");
-    prints("0710060005013F3F\n0102000605\n", "FF180002\n");
+    prints("071000060005013F3F\n", "060500\n");
+    prints("071000060005013F3F\n0102000605\n", "FF180002\n");
 }
 
 #[test]
 fn case_7_faulty_dealer() {
-    let sheet = "0410000005040102040801\n0101000105\n0101000205\n0101000307\n";
+    let sheet = "041000000005040102040801\n0101000105\n0101000205\n0101000307\n";
     prints(sheet, "010500\n020500\n030500\n");
 }
 
 #[test]
 fn case_8_dealer_is_listed() {
-    let sheet = "0410000005040102040801\n0101000105\n0101000207\n0101000309\n";
+    let sheet = "041000000005040102040801\n0101000105\n0101000207\n0101000309\n";
     prints(sheet, "010001\n020001\n030001\n");
 }
 
 #[test]
 fn case_9_faulty_board() {
     prints(
-        "0410000005040102040808\n0102030109\n",
+        "041000000005040102040808\n0102030109\n",
         "000500\n010500\n020500\n",
     );
 }
@@ -99,7 +100,7 @@ fn case_9_faulty_board() {
 fn case_10_span() {
     let sheet = |value: &str| {
         let lines = [1, 2, 3].map(|i| format!("010100{i:02X}{value}\n"));
-        format!("0410000005040102040801\n{}", lines.concat())
+        format!("041000000005040102040801\n{}", lines.concat())
     };
     prints(&sheet("0F"), "010F00\n020F00\n030F00\n");
     prints(&sheet("10"), "010000\n020000\n030000\n");
@@ -112,20 +113,57 @@ fn no_sets() {
     assert_eq!((plan.height(), plan.runs(), plan.rounds()), (1, 1, 1));
     let tolerated: Vec<u8> = (0..=255).filter(|s| plan.tolerated(*s)).collect();
     assert_eq!(tolerated, [0]);
-    prints("04100000050000\n", "000500\n010500\n020500\n030500\n");
-    prints("01100000050000\n", "000500\n");
-    prints("00100000050000\n", "FF010001\n");
-    prints("04100400050000\n", "FF060001\n");
-    prints("041000000500\n", "FF160001\n");
-    prints("0410000005000000\n", "FF160001\n");
-    prints("04100000050001\n", "FF170001\n");
-    prints("04100000050010\n", "FF170001\n");
-    prints("04100000050000\n0101000105\n", "FF180002\n");
+    prints("0410000000050000\n", "000500\n010500\n020500\n030500\n");
+    prints("0110000000050000\n", "000500\n");
+    prints("0010000000050000\n", "FF010001\n");
+    prints("0410000400050000\n", "FF060001\n");
+    prints("04100000000500\n", "FF160001\n");
+    prints("041000000005000000\n", "FF160001\n");
+    prints("0410000000050001\n", "FF170001\n");
+    prints("0410000000050010\n", "FF170001\n");
+    prints("0410000000050000\n0101000105\n", "FF180002\n");
+}
+
+/// Case 7 with the default 7: the dealer is silent, sends misfits, sends 16, sends three values.
+#[test]
+fn default_is_decided() {
+    let sheet = |values: [&str; 3]| {
+        let line = |i: usize| format!("010100{:02X}{}\n", i + 1, values[i]);
+        let lines: String = (0..3).map(line).collect();
+        format!("041007000005040102040801\n{lines}")
+    };
+    prints("041007000005040102040801\n", "010700\n020700\n030700\n");
+    prints(&sheet([""; 3]), "010700\n020700\n030700\n");
+    prints(&sheet(["0505"; 3]), "010700\n020700\n030700\n");
+    prints(&sheet(["10"; 3]), "010700\n020700\n030700\n");
+    prints(&sheet(["05", "06", "09"]), "010701\n020701\n030701\n");
+    prints(&sheet(["05", "05", "0505"]), "010500\n020500\n030500\n");
+}
+
+#[test]
+fn default_below_the_span() {
+    let head = |span, default, depth, value| {
+        format!("04{span:02X}{default:02X}00{depth:02X}{value:02X}040102040801\n")
+    };
+    let decided = "010F00\n020F00\n030F00\n";
+    prints(&head(16, 15, 0, 5), decided);
+    prints(&head(16, 16, 0, 5), "FF1A0001\n");
+    prints(&head(16, 255, 0, 5), "FF1A0001\n");
+    prints(&head(255, 254, 0, 5), &decided.replace("0F", "FE"));
+    prints(&head(255, 255, 0, 5), "FF1A0001\n");
+    prints(&head(1, 0, 0, 0), "FF070001\n");
+    prints(&head(1, 1, 0, 0), "FF070001\n");
+    prints(&head(0, 0, 0, 0), "FF070001\n");
+    prints(&head(16, 16, 3, 5), "FF1A0001\n");
+    prints(&head(16, 15, 3, 5), "FF080001\n");
+    prints(&head(16, 16, 0, 16), "FF1A0001\n");
+    prints("041010040005040102040801\n", "FF060001\n");
+    prints("041010000005040102040810\n", "FF1A0001\n");
 }
 
 #[test]
 fn refusals_and_lines() {
-    let head = "0410000005040102040801\n";
+    let head = "041000000005040102040801\n";
     let with = |rest: &str| format!("{head}{rest}");
     prints("", "FF160001\n");
     prints("\n", "FF160001\n");
@@ -137,10 +175,11 @@ fn refusals_and_lines() {
     prints(&with("0201000105\n"), "FF180002\n");
     prints(&with("0101010205\n"), "FF180002\n");
     prints(&with("0101000005\n"), "FF180002\n");
-    prints("0010000005040102040801\n0\n", "FF010001\n");
-    prints("0010000005050102040801\n", "FF160001\n");
-    prints("0410000010040102040810\n", "FF120001\n");
-    prints("0410000005040102040803\n", "FF170001\n");
+    prints("001000000005040102040801\n0\n", "FF010001\n");
+    prints("001000000005050102040801\n", "FF160001\n");
+    prints("0410000005040102040801\n", "FF160001\n");
+    prints("041000000010040102040810\n", "FF120001\n");
+    prints("041000000005040102040803\n", "FF170001\n");
     prints(&"0".repeat(65_537), "FF140000\n");
     prints(&"0".repeat(65_536), "FF150001\n");
 }

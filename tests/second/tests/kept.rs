@@ -4,7 +4,8 @@ use second::plan::{has, set_of};
 use second::sheet::Refusal;
 use second::shrink::shrink;
 use second::tally::{Tally, NUMBERS, SPLITS};
-use second::{bench, bench_with, corpus, make, play, print, sheet, Mistake, Outcome, Sheet};
+use second::{bench, bench_with, corpus, make, play, print, session, sheet};
+use second::{Mistake, Outcome, Sheet};
 use std::collections::BTreeSet;
 
 #[test]
@@ -52,21 +53,50 @@ fn corpus_covers_by_one_two_and_three() {
     assert_eq!(told(three, Mistake::CoverByTwo), [true; 2]);
 }
 
+/// A sheet kept for a place where the default is put tells the mistake that leaves 0 there, and no other such mistake.
+/// The default is 7; it is decided, though nobody told it, where only the dealer is faulty.
+#[test]
+fn corpus_puts_the_default_in_each_place() {
+    let zeros = [
+        ("default-silent-dealer", Mistake::MissingIsZero, true),
+        ("default-listed", Mistake::ListedIsZero, false),
+        ("default-masked", Mistake::MaskedIsZero, false),
+        ("default-misfit", Mistake::MisfitIsZero, true),
+        ("default-value-of-m", Mistake::BeyondIsZero, true),
+        ("default-unresolved-root", Mistake::RootIsZero, true),
+    ];
+    let kept = corpus::load();
+    for (name, mistake, shows) in zeros {
+        let (_, text) = kept.iter().find(|(kept, _)| kept == name).expect(name);
+        let outcome = play(text, None).unwrap();
+        assert_eq!((outcome.plan.default, outcome.default_shows()), (7, shows));
+        let mut told = Mistake::told_by(text);
+        told.retain(|m| zeros.iter().any(|(_, zero, _)| zero == m));
+        assert_eq!(told, [mistake], "{name}");
+    }
+}
+
 #[test]
 fn corpus_meets_all_but_the_longest() {
-    let tally = |without: &str| {
+    let tally = |asked: &dyn Fn(&str, &Result<Outcome, Refusal>) -> bool| {
         let mut tally = Tally::default();
-        let kept = corpus::load().into_iter();
-        kept.filter(|(name, _)| without.is_empty() || !name.starts_with(without))
-            .for_each(|(_, s)| tally.count(&play(&s, None)));
+        for (name, text) in corpus::load() {
+            let result = play(&text, None);
+            if asked(&name, &result) {
+                tally.count(&result);
+            }
+        }
         tally.count(&play(&vec![b'0'; 65_537], None));
         tally
     };
-    let mut all = tally("");
+    let mut all = tally(&|_, _| true);
     assert!(all.full(), "numbers {NUMBERS:?}, splits {SPLITS:?}");
-    for asked in ["refusal-03", "unequal-b5-n7", "empty-list"] {
-        assert!(!tally(asked).full(), "{asked}");
+    for without in ["refusal-03", "refusal-26", "unequal-b5-n7", "empty-list"] {
+        let some = tally(&|name, _| !name.starts_with(without));
+        assert!(!some.full(), "{without}");
     }
+    let hidden = tally(&|_, result| !result.as_ref().is_ok_and(|o| o.default_shows()));
+    assert!(!hidden.full(), "a default that shows");
     all.count(&Err(Refusal { number: 2, line: 1 }));
     assert!(!all.full(), "number 2 is free");
 }
@@ -112,7 +142,8 @@ fn made_sheets_with_no_sets() {
             }
         }
     }
-    assert_eq!(Vec::from_iter(numbers), [1, 6, 7, 8, 18, 21, 22, 23, 24]);
+    let met = [1, 6, 7, 8, 18, 21, 22, 23, 24, 26];
+    assert_eq!(Vec::from_iter(numbers), met);
     assert_eq!(dealers.len(), (1..=7).sum::<usize>());
     assert_eq!(Vec::from_iter(depths), [0, 4, 5, 6, 7]);
 }
@@ -125,13 +156,88 @@ fn decided_at_once(sheet: &Sheet, outcome: &Outcome, seed: u64) {
     assert_eq!(outcome.decided, decided, "seed {seed}");
 }
 
+/// Made sheets meet 7 where 26 applies too, 26 where 8 does, and 26 by a default of m. Accepted ones have the default
+/// 0, m - 1 or another; those other than 0 show at times, and differ from 0 in name only.
+#[test]
+fn made_sheets_with_defaults() {
+    let judged = [
+        Mistake::DefaultBeforeSpan,
+        Mistake::DefaultAfterDepth,
+        Mistake::DefaultOfSpan,
+    ];
+    let (mut told, mut kinds) = (BTreeSet::<Mistake>::new(), BTreeSet::new());
+    for seed in 0..3000 {
+        let text = make::sheet(seed);
+        match play(&text, None) {
+            Ok(outcome) => {
+                let kind = match outcome.plan.default {
+                    0 => "0",
+                    default if default == outcome.plan.span - 1 => "m - 1",
+                    _ => "other",
+                };
+                kinds.insert((kind, outcome.default_shows()));
+                swapped_with_zero(&sheet::read(&text).unwrap(), &outcome, seed);
+            }
+            Err(refusal) => {
+                let right = refusal.print().into_bytes();
+                told.extend(judged.iter().filter(|m| bench_with(&text, **m) != right));
+            }
+        }
+    }
+    assert_eq!(Vec::from_iter(told), judged);
+    let (shown, others) = (["m - 1", "other"], ["0", "m - 1", "other"]);
+    let mut all = BTreeSet::from(others.map(|kind| (kind, false)));
+    all.extend(shown.map(|kind| (kind, true)));
+    assert_eq!(kinds, all);
+}
+
+/// With the default and 0 swapped in the head and in all values, the decisions are swapped and the lists are the same.
+fn swapped_with_zero(sheet: &Sheet, outcome: &Outcome, seed: u64) {
+    let default = sheet.plan.default;
+    let swap = |value: u8| match value {
+        0 => default,
+        _ if value == default => 0,
+        _ => value,
+    };
+    let mut other = sheet.clone();
+    (other.plan.default, other.value) = (0, swap(sheet.value));
+    let values = other.frames.values_mut().flatten();
+    values.for_each(|v| *v = swap(*v));
+    let mut decided = session::play_sheet(&other, None).decided;
+    decided.iter_mut().for_each(|(_, v, _)| *v = swap(*v));
+    assert_eq!(decided, outcome.decided, "seed {seed}");
+}
+
+/// A default shows if it is not 0, the dealer is faulty, it is decided, and no faulty board told it.
+#[test]
+fn shown_defaults_are_counted() {
+    let kept = corpus::load();
+    let silent = |(name, _): &&(String, Vec<u8>)| name == "default-silent-dealer";
+    let (_, text) = kept.iter().find(silent).unwrap();
+    let shown = |change: &dyn Fn(&mut Outcome)| {
+        let (mut outcome, mut tally) = (play(text, None).unwrap(), Tally::default());
+        change(&mut outcome);
+        tally.count(&Ok(outcome));
+        (tally.defaults, tally.shown)
+    };
+    assert_eq!(shown(&|_| ()), (1, 1));
+    assert_eq!(shown(&|o| o.told.extend([7])), (1, 0));
+    assert_eq!(shown(&|o| o.faulty = 0), (1, 0));
+    assert_eq!(shown(&|o| o.plan.default = 6), (1, 0));
+    let zero = |o: &mut Outcome| {
+        o.plan.default = 0;
+        o.decided.iter_mut().for_each(|(_, v, _)| *v = 0);
+    };
+    assert_eq!(shown(&zero), (0, 0));
+}
+
 /// A sheet that need not show anything is made smaller down to no sets.
 #[test]
 fn shrinking_ends_with_no_sets() {
     let kept = corpus::load();
     let (_, text) = kept.iter().find(|(name, _)| name == "case-7").unwrap();
     let small = shrink(sheet::read(text).unwrap(), &|_| true);
-    assert_eq!(small.write(), b"04020000000000\n");
+    assert_eq!(small.write(), b"0402000000000000\n");
 }
 
 /// Roots that differ in a full tree, or with too few faulty boards, are counted as impossible.

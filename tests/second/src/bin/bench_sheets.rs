@@ -40,6 +40,7 @@ fn sheet(depth: u8, count: u64, seed: u64, every: bool) -> Vec<u8> {
         sets,
         dealer: 0,
         span,
+        default: 0,
         depth,
     };
     // The dealer is faulty in every other sheet.

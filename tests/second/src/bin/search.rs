@@ -43,6 +43,7 @@ fn plan(n: u8, depth: u8, size: u8, rng: &mut Prng) -> Plan {
         sets,
         dealer: 0,
         span: 2,
+        default: 0,
         depth,
     }
 }
