@@ -1,27 +1,19 @@
 -- One step of the session: what healthy boards hear of one another, and that none of them is listed by rule G.
 -- Assumes nothing.
-use Prim.Native.Nat.{ℕ, suc, _-_, _≤_, _<_, _^_}
+use Prim.Native.Nat.{ℕ, suc, _-_, _<_}
 use mathlib.Core.Path.{_≡_, refl, sym, _∙_, ap, subst}
-use mathlib.Core.Logic.{_≢_, ⊎-elim}
+use mathlib.Core.Logic.{_≢_}
 use mathlib.Core.Bool.{true, false, not, _&&_}
 use mathlib.Core.List.{List, [], _∷_, map, List·Memᴰ, List·Memᴰ·not-nil}
 use mathlib.Core.Option.{some}
 use native.Mathlib.Omega.{arith}
 use lib.Dec.{eqb, ltb}
-use lib.ListN.{length, getD}
-use lib.Pow.{pow-pos}
-use lib.Bits.{bitAnd, and-le-r}
+use lib.ListN.{length}
 use borrow.Author.Tests.{eqb-true, eqb-false, eq-eqb, ne-eqb, lt-ltb}
-use Rattle.sets.specs.Sets.{member, within, boards}
+use Rattle.sets.specs.Sets.{member}
 use Rattle.sets.specs.Structure.{tolerated}
-use Rattle.sets.proofs.Tests.{cases, and-true, not-f, true-not}
-use Rattle.sets.proofs.Search.{any-false}
-use Rattle.sets.proofs.Member.{within-boards}
-use Rattle.sets.proofs.Tolerated.{tolerated-listed}
-use Rattle.admission.specs.Calls.{strays}
+use Rattle.sets.proofs.Tests.{cases, and-true, true-not}
 use Rattle.plan.specs.declared.plan.Plan.{Plan}
-use Rattle.plan.specs.Listed.{listed}
-use Rattle.plan.specs.Calls.{judged}
 use Rattle.plan.specs.Values.{value}
 use Rattle.schedule.specs.declared.rounds.Round.{Round}
 use Rattle.schedule.specs.Schedule.{steps, stepRun, stepRound}
@@ -35,26 +27,13 @@ use Rattle.protocol.specs.declared.records.Record.{Record}
 use Rattle.protocol.proofs.Nodes.{sent-same, sent-has, inner-inv, node-label}
 use Rattle.protocol.proofs.Fill.{IsLabel}
 use Rattle.synchronous.proofs.Local.{detect-outside}
-use Rattle.protocol.proofs.Judgement.{plan-facts, plan-default, Good, good-dealer}
+use Rattle.protocol.proofs.Judgement.{plan-default, Good, good-dealer}
 use Rattle.protocol.proofs.Bounds.{read-small}
 use Rattle.synchronous.proofs.Reached.{other-level}
 use Rattle.synchronous.proofs.Hearing.{filled, filled-outside, delivered, copied}
 use Rattle.synchronous.proofs.Synchronous.{told, keeper-facts, Standing, standing, canon}
 use Rattle.agreement.proofs.Instance.{inst, inst-good, listOf}
-
--- A tolerated set of an accepted plan names boards below n only.
-pub tolerated-below : (p : Plan) → judged p .number ≡ 0 → (F : ℕ) → tolerated (listed p) F ≡ true → F < 2 ^ p .n
-unfolding strays within
-tolerated-below p e F t =
-    let f = plan-facts p e .admission in
-    ⊎-elim
-    (λ z. rw z (pow-pos (p .n)))
-    (λ w. let (i, l, x) = w in
-    let S = getD (listed p) i 0 in
-    let inside = within-boards (p .n) S (not-f (within S (boards (p .n))) (any-false (λ i. not (within (getD (listed p) i 0) (boards (p .n)))) (length (listed p)) (f .names) i l)) in
-    let le : F ≤ S = let y : bitAnd F S ≡ F = eqb-true (bitAnd F S) F x in omega (arith, and-le-r F S) in
-    omega arith)
-    (tolerated-listed (listed p) F t)
+use Rattle.agreement.proofs.Healthy.{tolerated-below, is-keeper}
 
 module _ (s : Setting) (a : Adversary) (sound : Sound s) where
   abbrev plan : Plan
@@ -70,10 +49,7 @@ module _ (s : Setting) (a : Adversary) (sound : Sound s) where
   healthy i k = let (l, f, ne) = keeper-facts s a sound i k in record { below = l; correct = f; keeper = ne }
 
   pub healthy-keeper : (i : ℕ) → T.Healthy (inst plan) (listOf F) i → keeper s i ≡ true
-  unfolding keeper
-  healthy-keeper i H =
-      and-true (ltb i (plan .n)) (not (member i F) && not (eqb i (plan .dealer))) (lt-ltb i (plan .n) (H .below))
-      (and-true (not (member i F)) (not (eqb i (plan .dealer))) (true-not (member i F) (H .correct)) (true-not (eqb i (plan .dealer)) (ne-eqb i (plan .dealer) (H .keeper))))
+  healthy-keeper i H = is-keeper s i (H .below) (H .correct) (H .keeper)
 
   -- What a healthy board that keeps cells sends is heard as it is.
   pub told-frame : (j i q : ℕ) → keeper s q ≡ true → j < steps plan

@@ -6,11 +6,16 @@ use mathlib.Core.Logic.{_≢_}
 use mathlib.Core.Bool.{true, false, not, _&&_, cond}
 use mathlib.Core.List.{List, [], _∷_, _++_}
 use native.Mathlib.Omega.{arith}
+use lib.Dec.{eqb}
 use lib.ListN.{getD}
+use borrow.Author.Tests.{eq-eqb, eqb-false}
 use Rattle.sets.specs.Search.{count}
 use Rattle.sets.specs.Sets.{member, within}
 use Rattle.sets.proofs.Tests.{cases, clash, and-l, and-r, and-true, not-t, true-not, is-false}
-use Rattle.sets.proofs.Member.{within-member, member-within}
+use Rattle.sets.proofs.Member.{within-member, member-within, within-empty}
+use Rattle.sets.specs.Structure.{holder}
+use Rattle.sets.proofs.Tolerated.{holder-empty}
+use Rattle.plan.specs.Listed.{listed}
 use Rattle.sets.proofs.Search.{any-same, any-true, any-of}
 use Rattle.sets.proofs.Count.{count-same, count-mono}
 use Rattle.refusals.specs.Outcome.{Outcome, taken, refused, andThen}
@@ -32,12 +37,13 @@ use Rattle.protocol.proofs.Judgement.{open-taken, record-taken, board-taken, ce
 use Rattle.synchronous.proofs.Reached.{reached-begun}
 use Rattle.synchronous.proofs.Synchronous.{keeper-facts}
 use Rattle.protocol.proofs.Taken.{open-closing}
-use Rattle.agreement.specs.Lists.{Call, closes, decides, caller, answers, state, Prefix, Stands, Fair, closings, EndsRun, root, list, onEvery, listAfter, Agreement, Demand3}
+use Rattle.agreement.specs.Lists.{Call, closes, decides, caller, answers, state, Prefix, Stands, Fair, closings, EndsRun, root, list, onEvery, listAfter, healthyList, Agreement, Demand3}
 use Rattle.agreement.specs.Claims.{SessionAgreement, ended, rootAfter, listEnded}
 use Rattle.agreement.proofs.Runs.{lists-grow}
 use Rattle.agreement.proofs.Session.{synchronous}
 use Rattle.agreement.proofs.Prefixes.{prefix-refl, prefix-trans, stands-prefix, stands-next}
 use Rattle.agreement.proofs.Called.{reached-after}
+use Rattle.agreement.proofs.Healthy.{is-keeper, list-placed}
 use Rattle.agreement.proofs.InStep.{adversary, InStep, in-step, below-or-end, closings-mono, closings-next, closed-state}
 
 -- What a decision that was read says.
@@ -222,11 +228,30 @@ module _ (s : Setting) (calls : List Call) (sound : Sound s) (fair : Fair s call
   now : (i : ℕ) → keeper s i ≡ true → InStep s calls sound fair calls i
   now i ki = here calls (prefix-refl calls) i ki
 
+  -- Every list of a board outside F lies within F.
+  within-faulty : (i : ℕ) → keeper s i ≡ true → within (listAfter s calls i) (s .faulty) ≡ true
+  unfolding listAfter
+  within-faulty i ki = subst (λ x. within x (s .faulty) ≡ true) (sym (now i ki .list)) (agreed .sound (closings (begun s) i calls) i (now i ki .most) ki)
+
+  -- So it has a place.
+  healthy-within : (i : ℕ) → i < plan .n → member i (s .faulty) ≡ false → within (healthyList s calls i) (s .faulty) ≡ true
+  unfolding healthyList
+  healthy-within i l out =
+      cases (eqb i (plan .dealer))
+      (λ d. rw d (within-empty (s .faulty)))
+      (λ d. rw d (within-faulty i (is-keeper s i l out (eqb-false i (plan .dealer) d))))
+
+  dealer-empty : healthyList s calls (plan .dealer) ≡ 0
+  unfolding healthyList
+  dealer-empty = rw (eq-eqb (plan .dealer) (plan .dealer) refl) refl
+
   agreement : Agreement s calls
   unfolding answers caller
   agreement = record {
     grows = grow;
-    sound = λ i ki. subst (λ x. within x (s .faulty) ≡ true) (sym (now i ki .list)) (agreed .sound (closings (begun s) i calls) i (now i ki .most) ki);
+    sound = within-faulty;
+    placed = λ i l out. list-placed s (healthyList s calls i) sound (healthy-within i l out);
+    dealer-placed = λ _. ap (holder (listed plan)) dealer-empty ∙ holder-empty (listed plan);
     decided = λ i ki. (last-step calls (prefix-refl calls) i ki, now i ki .decided);
     until = λ i before st l.
         open-closing (state s before i) (still-open before (stands-prefix (closes i) before calls st) i (fair .callers (closes i) before st) l);

@@ -4,18 +4,18 @@
 -- Assumes nothing.
 use Prim.Native.Nat.{ℕ, suc, _+_, _-_, _≤_, _<_}
 use mathlib.Core.Path.{_≡_, refl, sym, subst, ap, ap₂, _∙_}
-use mathlib.Core.Logic.{_≢_, inl, inr}
+use mathlib.Core.Logic.{inl, inr}
 use mathlib.Core.Bool.{Bool, true, false, not, _&&_, cond}
 use mathlib.Core.List.{List, [], _∷_, _++_}
 use mathlib.Core.Option.{Option, some, none, Option·getD, Option·some-injective, Option·none-ne-some}
 use native.Mathlib.Omega.{arith}
 use lib.Dec.{eqb, leb, ltb}
 use lib.ListN.{getD}
-use borrow.Author.Tests.{eqb-true, eqb-false, eq-eqb, ne-eqb, lt-ltb, ltb-true, ltb-false, lt-leb}
+use borrow.Author.Tests.{eqb-true, eqb-false, eq-eqb, ne-eqb, ltb-true, ltb-false, lt-leb}
 use Rattle.codec.specs.Codec.{encode, decode}
 use Rattle.codec.proofs.Codec.{decode-encode}
 use Rattle.sets.specs.Sets.{member}
-use Rattle.sets.proofs.Tests.{cases, clash, is-false, and-l, and-true, not-t, not-f, true-not}
+use Rattle.sets.proofs.Tests.{cases, clash, is-false, and-l, not-t, not-f}
 use Rattle.refusals.specs.Outcome.{Outcome, taken, refused, andThen}
 use Rattle.refusals.proofs.Outcomes.{taken-first}
 use Rattle.plan.specs.declared.plan.Plan.{Plan}
@@ -40,6 +40,7 @@ use Rattle.synchronous.proofs.Synchronous.{canon, Standing, standing, keeper-fa
 use Rattle.synchronous.proofs.AnyOrder.{update, heard-more, heard-taken, heard-same, heard-none, heard-frame, heard-root}
 use Rattle.agreement.specs.Lists.{Call, isClosing, receives, sends, closes, decides, caller, leaves, answers, World, state, Prefix, Stands, Taken, Fair, closings, listAfter}
 use Rattle.agreement.specs.Lists as L
+use Rattle.agreement.proofs.Healthy.{is-keeper}
 use Rattle.agreement.proofs.Reduction.{Entry, Letter, Boards, Session, Laws}
 use Rattle.agreement.proofs.Reduction as R
 use Rattle.agreement.proofs.Session.{synchronous}
@@ -326,11 +327,6 @@ module _ (s : Setting) (calls : List Call) (sound : Sound s) (fair : Fair s call
   unfolding stepOf
   same-steps q then i now h = ap₂ (λ (t : Run) (k : Round). S.step (s .plan) t k - 1) (h .run) (h .round)
 
-  keeper-is : (q : ℕ) → q < s .plan .n → member q (s .faulty) ≡ false → q ≢ s .plan .dealer → keeper s q ≡ true
-  unfolding keeper
-  keeper-is q l f ne =
-      and-true (ltb q (s .plan .n)) _ (lt-ltb q (s .plan .n) l) (and-true (not (member q (s .faulty))) _ (true-not _ f) (true-not _ (ne-eqb q (s .plan .dealer) ne)))
-
   -- The dealer's frame holds its value.
   dealt-read : member (s .plan .dealer) (s .faulty) ≡ false → decode (dealing (s .plan) (s .word) .values) ≡ s .word ∷ []
   unfolding dealing
@@ -389,7 +385,7 @@ module _ (s : Setting) (calls : List Call) (sound : Sound s) (fair : Fair s call
             let word = dealt-read (subst (λ y. member y (s .faulty) ≡ false) z fq) in
             inl (told-dealer s adversary sound i q j fq z ∙ ap some (sym (ap decode (brought .as-sent .dealt z) ∙ word))))
             (λ y. let ne = eqb-false q (s .plan .dealer) y in
-            inr (wrote-it (h .earlier) i q j f (keeper-is q (due-sender (s .plan) q i (stepRound (s .plan) (suc j)) d) fq ne) in-step (brought .as-sent .written ne)));
+            inr (wrote-it (h .earlier) i q j f (is-keeper s q (due-sender (s .plan) q i (stepRound (s .plan) (suc j)) d) fq ne) in-step (brought .as-sent .written ne)));
       }
 
   fair-steps : R.Fair (boards (s .plan)) (begun s) N calls

@@ -1,4 +1,5 @@
 pub mod Instance
+pub mod Healthy
 pub mod Delivery
 pub mod Soundness
 pub mod Runs

@@ -1,29 +1,34 @@
--- What a played sheet prints obeys demand 3: one decision, the dealer's if the dealer is outside F, and lists within F.
+-- What a played sheet prints obeys demand 3: one decision, the dealer's if the dealer is outside F, lists within F, and their places.
 -- Assumes nothing.
 use Prim.Native.Nat.{ℕ, zero, suc, _+_, _≤_, _<_}
 use mathlib.Core.Path.{_≡_, refl, sym, _∙_, ap, ap₂}
 use mathlib.Core.Logic.{_≢_}
-use mathlib.Core.Bool.{Bool, true, false, not, _&&_, cond}
+use mathlib.Core.Bool.{Bool, true, false, cond}
 use mathlib.Core.List.{List}
+use mathlib.Core.Option.{some}
 use native.Mathlib.Omega.{arith}
 use lib.Dec.{eqb, ltb}
 use lib.ListN.{length, getD, take, drop}
 use lib.Seq.{take-append-seam}
-use borrow.Author.Tests.{eqb-true, eqb-false, lt-ltb, ltb-true, ltb-false}
+use borrow.Author.Tests.{eq-eqb, eqb-true, eqb-false, ltb-true, ltb-false}
 use Rattle.sets.specs.Search.{any}
 use Rattle.sets.specs.Sets.{member, within}
-use Rattle.sets.proofs.Tests.{cases, clash, and-l, and-true, true-not}
+use Rattle.sets.specs.Structure.{holder, heldAt}
+use Rattle.sets.proofs.Tests.{cases, clash, and-l}
 use Rattle.sets.proofs.Search.{any-true, any-false}
 use Rattle.sets.proofs.Member.{within-empty}
+use Rattle.sets.proofs.Tolerated.{held-some, held-empty}
+use Rattle.plan.specs.Listed.{listed}
 use Rattle.schedule.specs.Schedule.{steps}
 use Rattle.protocol.specs.Limits.{sheetMost, outputNeeded, cellsNeeded}
-use Rattle.protocol.specs.Session.{Setting, Boards, boardAt, at, keeper}
+use Rattle.protocol.specs.Session.{Setting, Boards, boardAt, at, keeper, Sound}
 use Rattle.sheet.specs.declared.head.Head.{Head}
 use Rattle.sheet.specs.Sheet.{Frame, wrongAt, reading}
 use Rattle.sheet.specs.Playing.{sheetAdversary, setting, finalBoards, printed, boardLine, printBoards, Play, refusedPlay, playHead, playing, refusalText, benchPrints}
 use Rattle.sheet.proofs.Sheets.{sheet-sound}
 use Rattle.agreement.specs.Claims.{SessionAgreement}
 use Rattle.agreement.specs.Printed.{agreedLines, Printed}
+use Rattle.agreement.proofs.Healthy.{is-keeper, list-placed}
 use Rattle.agreement.proofs.Session.{synchronous}
 
 -- A sheet that is played was read, and its cells are enough.
@@ -65,14 +70,6 @@ module _ (h : Head) (fs : List Frame) (cells : List ℕ) (agreed : SessionAgreem
   abbrev w : Boards
   w = finalBoards h fs cells
 
-  is-keeper : (i : ℕ) → i < h .plan .n → member i (h .faulty) ≡ false → eqb i (h .plan .dealer) ≡ false → keeper s i ≡ true
-  unfolding keeper setting
-  is-keeper i l out ne =
-      and-true (ltb i (h .plan .n)) (not (member i (h .faulty)) && not (eqb i (h .plan .dealer)))
-      (lt-ltb i (h .plan .n) l)
-      (and-true (not (member i (h .faulty))) (not (eqb i (h .plan .dealer))) (true-not (member i (h .faulty)) out)
-      (true-not (eqb i (h .plan .dealer)) ne))
-
   keeper-below : (i : ℕ) → keeper s i ≡ true → i < h .plan .n
   unfolding keeper setting
   keeper-below i k = ltb-true i (h .plan .n) (and-l (ltb i (h .plan .n)) _ k)
@@ -106,19 +103,39 @@ module _ (h : Head) (fs : List Frame) (cells : List ℕ) (agreed : SessionAgreem
   lists-sound i l out =
       cases (eqb i (h .plan .dealer))
       (λ d. rw d (within-empty (h .faulty)))
-      (λ d. rw d (agreed .sound (steps (h .plan)) i (omega arith) (is-keeper i l out d)))
+      (λ d. rw d (agreed .sound (steps (h .plan)) i (omega arith) (is-keeper s i l out (eqb-false i (h .plan .dealer) d))))
 
-  agreed-lines : (k i : ℕ) → i + k ≡ h .plan .n → printBoards h w i k ≡ agreedLines h (chosen .decision) lists i k
-  unfolding printBoards boardLine agreedLines lists
+  dealer-empty : lists (h .plan .dealer) ≡ 0
+  unfolding lists
+  dealer-empty = rw (eq-eqb (h .plan .dealer) (h .plan .dealer) refl) refl
+
+  -- The places.
+  places : ℕ → ℕ
+  places i = heldAt (listed (h .plan)) (lists i)
+
+  dealer-first : places (h .plan .dealer) ≡ 0
+  unfolding places
+  dealer-first = ap (heldAt (listed (h .plan))) dealer-empty ∙ held-empty (listed (h .plan))
+
+  lists-placed : Sound s → (i : ℕ) → i < h .plan .n → member i (h .faulty) ≡ false → holder (listed (h .plan)) (lists i) ≡ some (places i)
+  unfolding places setting
+  lists-placed sound i l out =
+      let (k, e) = list-placed s (lists i) sound (lists-sound i l out) in
+      e ∙ ap some (sym (held-some (listed (h .plan)) (lists i) k e))
+
+  agreed-lines : (k i : ℕ) → i + k ≡ h .plan .n → printBoards h w i k ≡ agreedLines h (chosen .decision) lists places i k
+  unfolding printBoards boardLine agreedLines lists places setting
   agreed-lines zero i e = refl
   agreed-lines (suc k) i e =
       let ih = agreed-lines k (suc i) (omega arith) in
+      let sets = listed (h .plan) in
       cases (member i (h .faulty))
       (λ f. rw f ih)
       (λ f. cases (eqb i (h .plan .dealer))
       (λ d. let v : chosen .decision ≡ h .word = chosen .dealers (ap (λ x. member x (h .faulty)) (sym (eqb-true i (h .plan .dealer) d)) ∙ f) in
-      rw (f, d) (ap₂ (λ x y. printed i x 0 y) (sym v) ih))
-      (λ d. rw (f, d) (ap₂ (λ x y. printed i x (boardAt w i .rec .list) y) (chosen .keepers i (is-keeper i (omega arith) f d)) ih)))
+      rw (f, d, held-empty sets) (ap₂ (λ x y. printed i x 0 0 y) (sym v) ih))
+      (λ d. let list = boardAt w i .rec .list in
+      rw (f, d) (ap₂ (λ x y. printed i x list (heldAt sets list) y) (chosen .keepers i (is-keeper s i (omega arith) f (eqb-false i (h .plan .dealer) d))) ih)))
 
 -- What a played sheet prints obeys demand 3.
 pub printed-agreement : Printed
@@ -126,11 +143,16 @@ printed-agreement text cells out e =
     let h = reading text .head in
     let fs = reading text .frames in
     let (ok, room, _) = played-head text cells out e in
-    let agreed = synchronous (setting h cells) (sheetAdversary h fs) (sheet-sound text cells ok room) in
+    let sound = sheet-sound text cells ok room in
+    let agreed = synchronous (setting h cells) (sheetAdversary h fs) sound in
     record {
       decision = chosen h fs cells agreed .decision;
       lists = lists h fs cells agreed;
+      places = places h fs cells agreed;
       prints = prints-lines text cells out e ∙ agreed-lines h fs cells agreed (h .plan .n) 0 (omega arith);
       dealers = chosen h fs cells agreed .dealers;
       sound = lists-sound h fs cells agreed;
+      placed = lists-placed h fs cells agreed sound;
+      dealer-list = λ _. dealer-empty h fs cells agreed;
+      dealer-place = λ _. dealer-first h fs cells agreed;
     }

@@ -4,10 +4,13 @@ use mathlib.Core.Path.{_≡_}
 use mathlib.Core.Logic.{_≢_, _↔_}
 use mathlib.Core.Bool.{Bool, true, false, not, _&&_, cond}
 use mathlib.Core.List.{List, [], _∷_, _++_}
+use mathlib.Core.Option.{some}
 use lib.Dec.{eqb}
 use lib.ListN.{getD, take}
 use Rattle.sets.specs.Search.{any, count}
 use Rattle.sets.specs.Sets.{member, within}
+use Rattle.sets.specs.Structure.{holder}
+use Rattle.plan.specs.Listed.{listed}
 use Rattle.refusals.specs.Outcome.{Outcome, taken}
 use Rattle.heights.specs.Levels.{depthOf, isCut}
 use Rattle.schedule.specs.Schedule.{rounds, steps}
@@ -35,7 +38,7 @@ caller (decides i) = i
 -- What a call does to its board, and what it answers: literally the definitions of the calls, which stand in the `ensures` of the public
 -- functions: `receiving` of receiving::receiving::receive, `sending` of sending::sending::send, `closing` of closing::closing::close,
 -- `deciding` of deciding::deciding::decide. A board begins by `beginning` (beginning::beginning::begin), and the dealer's frame is `dealing`
--- (beginning::dealing::deal).
+-- (dealing::dealing::deal).
 unfoldable pub leaves : Call → Board → Board
 leaves (receives i q f) b = receiving b q f .board
 leaves (sends i out) b = b
@@ -165,10 +168,18 @@ onEvery s lists r = not (any (λ i. keeper s i && not (member r (asSet (lists i)
 unfoldable pub listAfter : Setting → List Call → ℕ → ℕ
 listAfter s calls i = state s calls i .rec .list
 
+-- The list, as a set, of a board i outside F. 01, of the dealer: "its list is empty".
+unfoldable pub healthyList : Setting → List Call → ℕ → ℕ
+healthyList s calls i = cond (eqb i (s .plan .dealer)) 0 (asSet (listAfter s calls i))
+
 -- 01: "After every fair list, for every such F, whatever its boards send".
 pub record Agreement (s : Setting) (calls : List Call) : Type 0 where
   -- 01: "every list of a board outside F lies within F". The user: "no board outside F lists one outside F".
   pub sound : (i : ℕ) → keeper s i ≡ true → within (asSet (listAfter s calls i)) (s .faulty) ≡ true
+  -- 02 c: "After a fair list .. a healthy board's list has such a place": that of the first listed set that holds it
+  pub placed : (i : ℕ) → i < s .plan .n → member i (s .faulty) ≡ false → (k : ℕ) × (holder (listed (s .plan)) (healthyList s calls i) ≡ some k)
+  -- a healthy dealer's list is empty, so its place is 0
+  pub dealer-placed : member (s .plan .dealer) (s .faulty) ≡ false → holder (listed (s .plan)) (healthyList s calls (s .plan .dealer)) ≡ some 0
   -- lists only grow along the list of calls
   pub grows : (i : ℕ) (before now : List Call) → keeper s i ≡ true → Prefix before now → Prefix now calls
       → within (asSet (listAfter s before i)) (asSet (listAfter s now i)) ≡ true

@@ -3,27 +3,37 @@ use Prim.Native.Nat.{ℕ, zero, suc, _<_}
 use mathlib.Core.Path.{_≡_}
 use mathlib.Core.Bool.{true, false, cond}
 use mathlib.Core.List.{List, []}
+use mathlib.Core.Option.{some}
 use Rattle.sets.specs.Sets.{member, within}
+use Rattle.sets.specs.Structure.{holder}
+use Rattle.plan.specs.Listed.{listed}
 use Rattle.sheet.specs.declared.head.Head.{Head}
 use Rattle.sheet.specs.Sheet.{reading}
 use Rattle.sheet.specs.Playing.{printed, playing, benchPrints}
 
--- The lines of those boards i to i + k - 1 that are outside F, rising: the board, one decision, and the board's list.
-unfoldable pub agreedLines : Head → ℕ → (ℕ → ℕ) → ℕ → ℕ → List ℕ
-agreedLines h decision lists i zero = []
-agreedLines h decision lists i (suc k) =
-    let rest = agreedLines h decision lists (suc i) k in
-    cond (member i (h .faulty)) rest (printed i decision (lists i) rest)
+-- The lines of those boards i to i + k - 1 that are outside F, rising: the board, one decision, the board's list and its place.
+unfoldable pub agreedLines : Head → ℕ → (ℕ → ℕ) → (ℕ → ℕ) → ℕ → ℕ → List ℕ
+agreedLines h decision lists places i zero = []
+agreedLines h decision lists places i (suc k) =
+    let rest = agreedLines h decision lists places (suc i) k in
+    cond (member i (h .faulty)) rest (printed i decision (lists i) (places i) rest)
 
 pub record PrintedAgreement (h : Head) (text : List ℕ) : Type 0 where
   pub decision : ℕ
   pub lists : ℕ → ℕ
+  pub places : ℕ → ℕ
   -- the text is a line for each board outside F, all with one decision
-  pub prints : text ≡ agreedLines h decision lists 0 (h .plan .n)
+  pub prints : text ≡ agreedLines h decision lists places 0 (h .plan .n)
   -- the dealer's value, if the dealer is outside F
   pub dealers : member (h .plan .dealer) (h .faulty) ≡ false → decision ≡ h .word
   -- each list lies within F
   pub sound : (i : ℕ) → i < h .plan .n → member i (h .faulty) ≡ false → within (lists i) (h .faulty) ≡ true
+  -- 02 c: "and so on every sheet, a healthy board's list has such a place": each place is the one that the test gives for the list, that of
+  -- the first listed set that holds it, 0 if nobody is listed, also where there are no sets
+  pub placed : (i : ℕ) → i < h .plan .n → member i (h .faulty) ≡ false → holder (listed (h .plan)) (lists i) ≡ some (places i)
+  -- the line of a dealer outside F has an empty list and place 0
+  pub dealer-list : member (h .plan .dealer) (h .faulty) ≡ false → lists (h .plan .dealer) ≡ 0
+  pub dealer-place : member (h .plan .dealer) (h .faulty) ≡ false → places (h .plan .dealer) ≡ 0
 
 -- What the program bench prints for a sheet that is not turned down obeys demand 3.
 abbrev pub Printed : Type 0

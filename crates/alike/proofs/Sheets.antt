@@ -4,11 +4,12 @@ use Prim.Native.Nat.{ℕ, zero, suc, _+_, _-_, _*_, _/_, _%_, _≤_, _<_}
 use mathlib.Core.Path.{_≡_, refl, sym, _∙_, ap, subst₂}
 use mathlib.Core.Bool.{not, _&&_, _||_, cond}
 use mathlib.Core.List.{List, [], _∷_, _++_}
-use mathlib.Core.Option.{Option, some, none}
+use mathlib.Core.Option.{Option, some, none, Option·getD}
 use native.Mathlib.Omega.{arith}
 use lib.Dec.{eqb, leb}
 use lib.ListN.{length, drop}
 use Rattle.sets.specs.Sets.{member}
+use Rattle.sets.specs.Structure.{heldAt}
 use Rattle.sets.proofs.Tests.{cases}
 use Rattle.schedule.specs.Schedule.{steps, stepRun, stepRound}
 use Rattle.refusals.specs.Outcome.{taken}
@@ -73,11 +74,12 @@ module _ (g h : Head) (a : AlikeHeads g h) where
         (all (sheetAdversary g fs) (steps (g .plan)))
 
     line-alike : (i : ℕ) (rest : List ℕ) → i < g .plan .n → boardLine g (ending g) i rest ≡ boardLine h (ending h) i rest
-    unfolding boardLine
+    unfolding boardLine heldAt
     line-alike i rest l = λ j.
         let same = fields-alike i l in
-        cond (member i (a .faulty j)) rest
-        (cond (eqb i (a .plan .dealer j)) (printed i (a .word j) 0 rest) (printed i (same .decision j) (asSet (same .list j)) rest))
+        let list = asSet (same .list j) in
+        let keepers = printed i (same .decision j) list (Option·getD (a .hold list j) 255) rest in
+        cond (member i (a .faulty j)) rest (cond (eqb i (a .plan .dealer j)) (printed i (a .word j) 0 0 rest) keepers)
 
     boards-alike : (i k : ℕ) → i + k ≤ g .plan .n → printBoards g (ending g) i k ≡ printBoards h (ending h) i k
     unfolding printBoards

@@ -5,7 +5,7 @@ use mathlib.Core.Path.{_≡_}
 use mathlib.Core.Bool.{cond}
 use mathlib.Core.List.{List}
 use mathlib.Core.Option.{Option}
-use Rattle.sets.specs.Structure.{tolerated}
+use Rattle.sets.specs.Structure.{holder, tolerated}
 use Rattle.plan.specs.declared.plan.Plan.{Plan}
 use Rattle.plan.specs.Listed.{listed}
 use Rattle.plan.specs.Calls.{judged}
@@ -61,9 +61,10 @@ pub record SameCalls (p q : Plan) : Type 0 where
 abbrev pub AlikeCalls : Type 0
 AlikeCalls = (p q : Plan) → Alike p q → SameCalls p q
 
--- Heads with such plans, which are otherwise the same.
+-- Heads with such plans, where each set has the same place in both lists, and which are otherwise the same.
 pub record AlikeHeads (g h : Head) : Type 0 where
   pub plan : Alike (g .plan) (h .plan)
+  pub hold : (a : ℕ) → holder (listed (g .plan)) a ≡ holder (listed (h .plan)) a
   pub faulty : g .faulty ≡ h .faulty
   pub word : g .word ≡ h .word
 

@@ -1,28 +1,30 @@
 -- Number 5 by pairs: the first pair whose others are held, and their holder, is the first covering triple.
 -- Assumes nothing.
-use Prim.Native.Nat.{ℕ, _-_, _≤_, _<_, _^_, min}
+use Prim.Native.Nat.{ℕ, _-_, _≤_, _<_, _^_}
 use mathlib.Core.Path.{_≡_, sym, _∙_, ap, subst}
-use mathlib.Core.Logic.{_≢_, ⊎-elim}
-use mathlib.Core.Bool.{Bool, true, false, not, _&&_, _||_, or-assoc}
+use mathlib.Core.Logic.{⊎-elim}
+use mathlib.Core.Bool.{Bool, true, not, _&&_, _||_, or-assoc}
 use mathlib.Core.List.{List, [], _∷_}
 use native.Mathlib.Omega.{arith}
 use lib.Bits.{bitAnd, and-le-l}
 use lib.Dec.{ltb}
 use lib.ListN.{length, getD}
 use lib.Pow.{ones-lt, pow-mono}
-use borrow.Author.Tests.{ne-eqb, ltb-true, ltb-false, lt-ltb}
+use borrow.Author.Tests.{ltb-true, ltb-false, lt-ltb}
 use Rattle.sets.specs.Search.{first}
 use Rattle.sets.specs.Sets.{member, union, within, boards}
 use Rattle.sets.specs.Structure.{tolerated}
-use Rattle.holders.specs.Holders.{heldAt}
+use Rattle.holders.specs.Holders.{holderIn, holds, Asked}
 use Rattle.sets.proofs.Tests.{cases, clash, same-test, and-r, and-true, not-t, or-true, or-left, or-right}
 use Rattle.sets.proofs.Search.{first-ge, first-true, first-least}
 use Rattle.sets.proofs.Member.{member-union, member-both, member-not, member-boards, member-setOf, setOf-below, within-member, member-within, same-members}
-use Rattle.sets.proofs.Tolerated.{listed-tolerated, tolerated-holder, holder-first}
-use Rattle.holders.proofs.Held.{getD-any, table-length, table-at, held-some, held-tolerated}
-use Rattle.covering.specs.Cover.{covers, thirdPlace, secondPlace, firstPlace, covered, places}
+use Rattle.sets.proofs.Tolerated.{held-some, listed-tolerated, tolerated-holder, holder-first}
+use Rattle.holders.proofs.Held.{table-length, table-holder, table-tolerated}
+use Rattle.tolerance.specs.Places.{foundAt}
+use Rattle.tolerance.specs.Bytes.{placeByte}
+use Rattle.tolerance.proofs.Places.{found-byte}
+use Rattle.covering.specs.Cover.{covers, thirdPlace, secondPlace, firstPlace, covered, places, covering}
 use Rattle.refusals.specs.Outcome.{taken, refusedAt}
-use Rattle.covering.specs.Cover.{covering}
 use Rattle.covering.specs.Pairs.{outside, others, thirdHeld, secondHeld, firstHeld, WithTable}
 use Rattle.covering.proofs.Cover.{CoverAt, covers-cover, cover-covers, swap-left, swap-right, found-of, third-found, first-triple}
 
@@ -160,24 +162,20 @@ module _ (n : ℕ) (sets : List ℕ) where
       absurd (omega (arith, first-held-le (firstPlace n sets) _ _ o₁ (omega arith) o₃ (first .covering))))
       (λ b. rw b)
 
-  -- What stands in the table for the others of a pair.
-  pub third-read : (holders : List ℕ) (i j a : ℕ) → WithTable n sets holders → a ≡ outside (min n 8) (union (getD sets i 0) (getD sets j 0))
-      → (a < length holders) × (getD holders a 0 ≡ thirdHeld n sets i j)
-  unfolding thirdHeld others
-  third-read holders i j a t e =
-      let z : min n 8 ≡ n = omega (arith, t .most-boards) in
-      let s : a ≡ others n sets i j = e ∙ ap (λ x. outside x (union (getD sets i 0) (getD sets j 0))) z in
-      let small : a < 128 = omega (arith, outside-below n (union (getD sets i 0) (getD sets j 0)) (t .most-boards)) in
-      let whole : length holders ≡ 128 = ap length (t .table) ∙ table-length sets in (
-        omega arith,
-        getD-any holders a 0 255 (omega arith) ∙ ap (λ l. getD l a 255) (t .table) ∙ table-at sets a small ∙ ap (heldAt sets) s,
-      )
+  -- The others of a pair are asked of the table.
+  module _ (holders : List ℕ) (t : WithTable n sets holders) (i j : ℕ) where
+    small : others n sets i j < 128
+    unfolding others
+    small = outside-below n (union (getD sets i 0) (getD sets j 0)) (t .most-boards)
 
-  -- The test that the search for the second place makes.
-  pub held-hit : (i j k : ℕ) → length sets ≤ 32 → k ≡ thirdHeld n sets i j → k ≢ 255 → tolerated sets (others n sets i j) ≡ true
-  unfolding thirdHeld
-  held-hit i j k l e ne = sym (held-tolerated sets (others n sets i j) (omega arith)) ∙ rw (← e, ne-eqb k 255 ne)
+    pub others-asked : Asked holders (others n sets i j)
+    others-asked = record { whole = ap length (t .table) ∙ table-length sets; small = small }
 
-  pub held-miss : (i j k : ℕ) → length sets ≤ 32 → k ≡ thirdHeld n sets i j → k ≡ 255 → tolerated sets (others n sets i j) ≡ false
-  unfolding thirdHeld
-  held-miss i j k l e z = sym (held-tolerated sets (others n sets i j) (omega arith)) ∙ rw (← e, z)
+    pub others-held : holds holders (others n sets i j) ≡ tolerated sets (others n sets i j)
+    others-held = table-tolerated sets holders (others n sets i j) (t .table) (omega (arith, t .most-sets)) small
+
+    pub others-third : placeByte (foundAt (holderIn holders (others n sets i j))) ≡ thirdHeld n sets i j
+    unfolding thirdHeld
+    others-third =
+        let short : length sets ≤ 255 = omega (arith, t .most-sets) in
+        ap (λ o. placeByte (foundAt o)) (table-holder sets holders (others n sets i j) (t .table) short small) ∙ found-byte sets (others n sets i j) short

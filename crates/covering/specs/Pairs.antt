@@ -7,8 +7,8 @@ use lib.Dec.{ltb}
 use lib.ListN.{length, getD}
 use Rattle.sets.specs.Search.{first}
 use Rattle.sets.specs.Sets.{member, union, setOf}
-use Rattle.sets.specs.Structure.{tolerated}
-use Rattle.holders.specs.Holders.{heldAt, holderTable}
+use Rattle.sets.specs.Structure.{heldAt, tolerated}
+use Rattle.holders.specs.Holders.{holderTable}
 
 -- The boards that stand in one of the first k sets.
 unfoldable pub unionOf : List ℕ → ℕ → ℕ
@@ -46,8 +46,13 @@ pub record WithTable (n : ℕ) (sets holders : List ℕ) : Type 0 where
   pub most-sets : length sets ≤ 32
   pub table : holders ≡ holderTable sets
 
--- The same, with two places.
-pub record Paired (n : ℕ) (sets holders : List ℕ) (i j : ℕ) : Type 0 where
-  pub tabled : WithTable n sets holders
+-- Two places of the list.
+pub record Pair (n : ℕ) (sets : List ℕ) (i j : ℕ) : Type 0 where
+  pub most-boards : n ≤ 7
   pub first-listed : i < length sets
   pub second-listed : j < length sets
+
+-- The same, with the table.
+pub record Paired (n : ℕ) (sets holders : List ℕ) (i j : ℕ) : Type 0 where
+  pub tabled : WithTable n sets holders
+  pub pair : Pair n sets i j

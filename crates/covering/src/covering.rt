@@ -1,15 +1,18 @@
 // Number 5: three sets that cover all boards.
+use holders::table::holder_in;
 use holders::table::holders_of;
+use holders::table::holds;
 use refusals::refusal::Refusal;
 use refusals::refusal::Verdict;
 use sets::boards::all_boards;
 use sets::boards::within;
+use tolerance::bytes::place_byte;
 ghost use mathlib.Core.Path.{_≡_};
 ghost use Prim.Native.Nat.{min};
 ghost use lib.ListN.{length};
 ghost use Rattle.refusals.specs.Outcome.{verdict};
 ghost use Rattle.covering.specs.Cover.{covering};
-ghost use Rattle.covering.specs.Pairs.{unionOf, outside, thirdHeld, secondHeld, firstHeld, Limited, WithTable, Paired};
+ghost use Rattle.covering.specs.Pairs.{unionOf, outside, others, thirdHeld, secondHeld, firstHeld, Limited, WithTable, Pair, Paired};
 
 // The boards that stand in some set.
 fn union_of(sets: &[u8]) -> u8
@@ -31,12 +34,20 @@ fn outside_of(n: u8, s: u8) -> u8
     all_boards(n) & !s
 }
 
-// The place of the first set that holds the boards that the sets at i and j leave; FF if none does.
+// The boards that the sets at i and j leave.
+fn others_of(n: u8, sets: &[u8], i: usize, j: usize) -> u8
+    requires { ⌜ Pair n (now sets) i j ⌝ }
+    ensures { λ r. ⌜ r ≡ others n (now (sets .entry)) i j ⌝ }
+{
+    outside_of(n, sets[i] | sets[j])
+}
+
+// The place of the first set that holds them; FF if none does.
 fn third_held(n: u8, sets: &[u8], holders: &[u8], i: usize, j: usize) -> u8
     requires { ⌜ Paired n (now sets) (now holders) i j ⌝ }
     ensures { λ r. ⌜ r ≡ thirdHeld n (now (sets .entry)) i j ⌝ }
 {
-    holders[outside_of(n, sets[i] | sets[j]) as usize]
+    place_byte(holder_in(holders, others_of(n, sets, i, j)))
 }
 
 // The first j from i on for which a set holds what the sets at i and j leave; the list's length if there is none.
@@ -46,7 +57,7 @@ fn second_held(n: u8, sets: &[u8], holders: &[u8], i: usize) -> usize
 {
     let mut j = i;
     while j < sets.len() {
-        if third_held(n, sets, holders, i, j) != 255 {
+        if holds(holders, others_of(n, sets, i, j)) {
             return j;
         }
         j += 1;

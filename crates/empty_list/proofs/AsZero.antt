@@ -115,5 +115,9 @@ alike p q e =
           ∙ (λ j. planning (e .n j) (sym (e .one) j) (sym (e .zero) j) (record { dealer = e .dealer j; span = e .span j; default = e .default j; depth = e .depth j }));
     }
 
+-- Each set has the same place in both.
+pub places-alike : (p q : Plan) → EmptyAndZero p q → (a : ℕ) → holder (listed p) a ≡ holder (listed q) a
+places-alike p q e a = ap (λ l. holder l a) (lists-none p (e .none)) ∙ same-sets .hold a ∙ ap (λ l. holder l a) (sym (e .zero))
+
 pub empty-as-zero : EmptyAsZero
 empty-as-zero p q e = alike-calls p q (alike p q e)

@@ -23,7 +23,7 @@ use Rattle.sheet.proofs.Sheets.{frames-head, head-right, head-wrong, lines-head
 use Rattle.alike.specs.Alike.{AlikeHeads, readingOn}
 use Rattle.alike.proofs.Sheets.{alike-plays}
 use Rattle.empty_list.specs.Sheets.{HasHead, emptyHead, zeroHead, SameSheets}
-use Rattle.empty_list.proofs.AsZero.{same-sets, same-answers, alike}
+use Rattle.empty_list.proofs.AsZero.{same-sets, same-answers, alike, places-alike}
 
 -- A sheet's lines are read from its head on.
 reads : (text bytes : List ℕ) (ls : List Line) → HasHead text bytes ls → reading text ≡ readHead bytes ls
@@ -56,7 +56,12 @@ module _ (n m x d b v f : ℕ) where
   unfolding judgeHead headOf numberAt
   heads-alike e =
       let planned = same-answers .plans n settings (both-taken (planning n 0 [] settings) _ e .0) in
-      record { plan = alike (headOf empty .plan) (headOf zero .plan) planned; faulty = refl; word = refl }
+      record {
+        plan = alike (headOf empty .plan) (headOf zero .plan) planned;
+        hold = places-alike (headOf empty .plan) (headOf zero .plan) planned;
+        faulty = refl;
+        word = refl;
+      }
 
   module _ (ls : List Line) (cells out : List ℕ) where
     -- Both heads are accepted.

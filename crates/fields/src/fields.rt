@@ -1,8 +1,6 @@
 // The fields of a head: its sets and settings, the dealer's value and the faulty boards judged.
 use codec::value::Value;
 use hex::reading::byte_at;
-use holders::table::holders_of;
-use holders::table::holds;
 use refusals::refusal::Refusal;
 use refusals::refusal::Verdict;
 use sets::boards::all_boards;
@@ -14,12 +12,14 @@ use sheet::head::DEPTH;
 use sheet::head::SETS;
 use sheet::head::SPAN;
 use text::lines::number_at;
+use tolerance::structure::Place;
+use tolerance::structure::holder;
 ghost use mathlib.Core.Path.{_≡_};
 ghost use mathlib.Core.Bool.{_&&_, cond};
 ghost use mathlib.Core.List.{[], _++_};
-ghost use Prim.Native.Nat.{_-_, _≤_, min};
+ghost use Prim.Native.Nat.{_-_, min};
 ghost use lib.Dec.{leb};
-ghost use lib.ListN.{length, replicate};
+ghost use lib.ListN.{replicate};
 ghost use Rattle.sets.specs.Sets.{within, boards};
 ghost use Rattle.sets.specs.Structure.{tolerated};
 ghost use Rattle.refusals.specs.Outcome.{taken, refused, verdict};
@@ -78,16 +78,14 @@ fn at_most_seven(n: u8) -> u8
 
 // The faulty boards: 23.
 pub fn judge_faulty(n: u8, sets: &[u8], faulty: u8) -> Verdict
-    requires { ⌜ length (now sets) ≤ 255 ⌝ }
     ensures { λ v. ⌜ verdict v ≡ cond (within faulty (boards (min n 7)) && tolerated (now (sets .entry)) faulty) (taken []) (refused 23) ⌝ }
 {
     let all = all_boards(at_most_seven(n));
     if !within(faulty, all) {
         return Verdict::Refused(Refusal::BadFaulty);
     }
-    let holders = holders_of(sets);
-    if holds(&holders, faulty) {
-        return Verdict::Accepted;
+    match holder(sets, faulty) {
+        Place::At(_) => Verdict::Accepted,
+        Place::Nowhere => Verdict::Refused(Refusal::BadFaulty),
     }
-    Verdict::Refused(Refusal::BadFaulty)
 }

@@ -12,14 +12,15 @@ use lib.Seq.{getD-set-same, getD-set-other}
 use borrow.Author.Tests.{eqb-true, eqb-false, eq-eqb, ne-eqb, ltb-true, ltb-false, lt-ltb, le-ltb}
 use Rattle.sets.specs.Search.{first}
 use Rattle.sets.specs.Sets.{member, within}
-use Rattle.holders.specs.Holders.{heldAt, holderTable}
+use Rattle.sets.specs.Structure.{heldAt}
+use Rattle.holders.specs.Holders.{holderTable}
 use Rattle.holders.specs.Filling.{placeFrom, near, stage, foldedAt, folding}
 use Rattle.sets.proofs.Tests.{cases, clash, is-false, same-test, and-l, and-r, and-true, or-true, or-left, or-right}
 use Rattle.sets.proofs.Search.{first-le, first-same, first-either, seek-start, opened}
 use Rattle.sets.proofs.Member.{same-members, member-half, member-even, even-member, member-low, member-high, insert-above, member-insert, within-member, member-within}
-use Rattle.sets.proofs.Tolerated.{holds, holder-empty, holder-at, holder-none}
+use Rattle.sets.proofs.Tolerated.{holds, holder-empty, holder-at, holder-none, held-some, held-none}
 use Rattle.sets.proofs.Tabulated.{tabulate-length, tabulate-at}
-use Rattle.holders.proofs.Held.{tabulate-by, held-some, held-none}
+use Rattle.holders.proofs.Held.{tabulate-by}
 
 -- The earlier of two places is that of the first set that passes one of the two tests.
 place-either : (f g : ℕ → Bool) (k : ℕ) → k ≤ 255 → min (placeFrom f k 0) (placeFrom g k 0) ≡ placeFrom (λ p. f p || g p) k 0

@@ -2,21 +2,20 @@
 -- Assumes nothing.
 use Prim.Native.Nat.{ℕ, zero, suc, _≤_, _<_}
 use mathlib.Core.Path.{_≡_, refl, sym, ap, _∙_}
-use mathlib.Core.Bool.{not}
 use mathlib.Core.List.{List, [], _∷_}
-use mathlib.Core.Option.{some, none}
 use native.Mathlib.Omega.{arith}
 use lib.Dec.{eqb, ltb}
 use lib.ListN.{length, getD}
 use lib.Seq.{ext-getD}
 use borrow.Author.Tests.{eqb-true, eqb-false, ne-eqb, ltb-true, ltb-false}
 use Rattle.sets.specs.Search.{first}
-use Rattle.sets.specs.Structure.{holder, isSome, tolerated}
+use Rattle.sets.specs.Structure.{holder, heldAt, isSome, tolerated}
 use Rattle.sets.specs.Tabulate.{tabulate}
-use Rattle.holders.specs.Holders.{heldAt, holderTable}
+use Rattle.tolerance.specs.Bytes.{bytePlace}
+use Rattle.holders.specs.Holders.{holderTable, holderIn, holds}
 use Rattle.sets.proofs.Tabulated.{tabulate-length, tabulate-at}
 use Rattle.sets.proofs.Tests.{cases}
-use Rattle.sets.proofs.Tolerated.{holds, holder-empty, holder-at, holder-none}
+use Rattle.sets.proofs.Tolerated.{holds as holds-at, holder-empty, holder-at, holder-none, held-some, held-none, held-empty}
 
 -- Reading an element that is there needs no default.
 pub getD-any : (l : List ℕ) (i a b : ℕ) → i < length l → getD l i a ≡ getD l i b
@@ -39,28 +38,25 @@ module _ (sets : List ℕ) where
   unfolding holderTable
   table-at a l = tabulate-at (heldAt sets) 128 a 255 l
 
-  -- A set that is held is so at a place of the list, or at 0.
-  pub held-some : (a i : ℕ) → holder sets a ≡ some i → heldAt sets a ≡ i
-  unfolding heldAt
-  held-some a i e = rw e
-
-  pub held-none : (a : ℕ) → holder sets a ≡ none → heldAt sets a ≡ 255
-  unfolding heldAt
-  held-none a e = rw e
-
-  pub held-tolerated : (a : ℕ) → length sets ≤ 255 → not (eqb (heldAt sets a) 255) ≡ tolerated sets a
-  unfolding tolerated isSome heldAt
-  held-tolerated a short =
-      let f = first (holds sets a) (length sets) 0 in
+  -- No place of a list of at most 255 sets is FF.
+  byte-held : (a : ℕ) → length sets ≤ 255 → bytePlace (heldAt sets a) ≡ holder sets a
+  unfolding bytePlace
+  byte-held a short =
+      let f = first (holds-at sets a) (length sets) 0 in
       cases (eqb a 0)
-      (λ e. rw (eqb-true a 0 e, holder-empty sets))
+      (λ e. rw (eqb-true a 0 e, held-empty sets, holder-empty sets) refl)
       (λ e. cases (ltb f (length sets))
       (λ b. let l : f < length sets = ltb-true f (length sets) b in
-      rw (holder-at sets a f (eqb-false a 0 e) refl l, ne-eqb f 255 (omega arith)))
-      (λ b. rw (holder-none sets a f (eqb-false a 0 e) refl (ltb-false f (length sets) b))))
+      let h = holder-at sets a f (eqb-false a 0 e) refl l in
+      rw (held-some sets a f h, h, ne-eqb f 255 (omega arith)) refl)
+      (λ b. let h = holder-none sets a f (eqb-false a 0 e) refl (ltb-false f (length sets) b) in rw (held-none sets a h, h) refl))
 
   -- What the table answers.
-  pub table-tolerated : (holders : List ℕ) (a : ℕ) → holders ≡ holderTable sets → length sets ≤ 255 → a < 128
-      → not (eqb (getD holders a 255) 255) ≡ tolerated sets a
-  table-tolerated holders a e short small =
-      ap (λ l. not (eqb (getD l a 255) 255)) e ∙ ap (λ x. not (eqb x 255)) (table-at a small) ∙ held-tolerated a short
+  module _ (holders : List ℕ) (a : ℕ) (table : holders ≡ holderTable sets) (short : length sets ≤ 255) (small : a < 128) where
+    pub table-holder : holderIn holders a ≡ holder sets a
+    unfolding holderIn
+    table-holder = ap (λ l. bytePlace (getD l a 255)) table ∙ ap bytePlace (table-at a small) ∙ byte-held a short
+
+    pub table-tolerated : holds holders a ≡ tolerated sets a
+    unfolding holds tolerated
+    table-tolerated = ap isSome table-holder

@@ -1,10 +1,11 @@
 // The table of holders: for every set of boards 0 to 6 the place of the first listed set that holds it, FF if none does.
+use tolerance::bytes::byte_place;
+use tolerance::structure::Place;
 ghost use mathlib.Core.Path.{_≡_};
-ghost use mathlib.Core.Bool.{not};
 ghost use Prim.Native.Nat.{_≤_, min};
-ghost use lib.Dec.{eqb};
-ghost use lib.ListN.{length, getD};
-ghost use Rattle.holders.specs.Holders.{holderTable, Asked};
+ghost use lib.ListN.{length};
+ghost use Rattle.tolerance.specs.Places.{placeSays, foundAt};
+ghost use Rattle.holders.specs.Holders.{holderTable, holderIn, holds, Asked};
 ghost use Rattle.holders.specs.Filling.{stage, folding};
 
 // The smaller of two places.
@@ -61,10 +62,21 @@ pub fn holders_of(sets: &[u8]) -> [u8; 128]
     table
 }
 
-// Does a listed set hold a?
+// The test of a set by the table: the first listed set that holds a.
+pub fn holder_in(holders: &[u8], a: u8) -> Place
+    requires { ⌜ Asked (now holders) a ⌝ }
+    ensures { λ r. ⌜ placeSays r ≡ foundAt (holderIn (now (holders .entry)) a) ⌝ }
+{
+    byte_place(holders[a as usize])
+}
+
+// Does a have a place?
 pub fn holds(holders: &[u8], a: u8) -> bool
     requires { ⌜ Asked (now holders) a ⌝ }
-    ensures { λ r. ⌜ r ≡ not (eqb (getD (now (holders .entry)) a 255) 255) ⌝ }
+    ensures { λ r. ⌜ r ≡ holds (now (holders .entry)) a ⌝ }
 {
-    holders[a as usize] != 255
+    match holder_in(holders, a) {
+        Place::At(_) => true,
+        Place::Nowhere => false,
+    }
 }

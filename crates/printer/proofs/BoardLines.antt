@@ -13,6 +13,8 @@ use lib.Seq.{sets}
 use borrow.Author.Tests.{eqb-false, lt-leb, le-leb}
 use Rattle.codec.specs.Codec.{encode}
 use Rattle.sets.specs.Sets.{member}
+use Rattle.sets.specs.Structure.{heldAt}
+use Rattle.plan.specs.Listed.{listed}
 use Rattle.sets.proofs.Tests.{cases}
 use Rattle.protocol.specs.Limits.{lineLength, outputNeeded}
 use Rattle.protocol.specs.declared.records.Record.{Record}
@@ -46,6 +48,10 @@ list-at [] i other e = e
 list-at (r ∷ rs) zero other e = refl
 list-at (r ∷ rs) (suc i) other e = list-at rs i other e
 
+-- The line of a board i that keeps cells.
+abbrev keeperLine : Head → Record → ℕ → List ℕ → List ℕ
+keeperLine h r i rest = printed i (r .decision) (asSet (r .list)) (heldAt (listed (h .plan)) (asSet (r .list))) rest
+
 module _ (h : Head) (w : Boards) where
   -- The line of board i, by its kind.
   pub line-faulty : (i : ℕ) (rest : List ℕ) → member i (h .faulty) ≡ true → boardLine h w i rest ≡ rest
@@ -53,12 +59,12 @@ module _ (h : Head) (w : Boards) where
   line-faulty i rest f = rw f refl
 
   pub line-dealer : (i : ℕ) (rest : List ℕ) → member i (h .faulty) ≡ false → eqb i (h .plan .dealer) ≡ true
-      → boardLine h w i rest ≡ printed i (h .word) 0 rest
+      → boardLine h w i rest ≡ printed i (h .word) 0 0 rest
   unfolding boardLine
   line-dealer i rest f d = rw (f, d) refl
 
   pub line-other : (i : ℕ) (rest : List ℕ) → member i (h .faulty) ≡ false → eqb i (h .plan .dealer) ≡ false
-      → boardLine h w i rest ≡ printed i (boardAt w i .rec .decision) (boardAt w i .rec .list) rest
+      → boardLine h w i rest ≡ keeperLine h (boardAt w i .rec) i rest
   unfolding boardLine
   line-other i rest f d = rw (f, d) refl
 
@@ -97,11 +103,11 @@ module _ (h : Head) (w : Boards) where
   unfolding encode printed hexByte hexBytes hexValue
   line-size i f = cases (eqb i (h .plan .dealer)) (λ d. rw (line-dealer i [] f d) refl) (λ d. rw (line-other i [] f d) refl)
 
-  pub print-short : (k : ℕ) → length (printBoards h w 0 k) ≤ 7 * k
+  pub print-short : (k : ℕ) → length (printBoards h w 0 k) ≤ lineLength * k
   print-short zero = rw lines-none (omega arith)
   print-short (suc k) =
       let e = ap length (lines-last 0 k) ∙ length-append (printBoards h w 0 k) (boardLine h w (0 + k) []) in
-      let l : length (boardLine h w (0 + k) []) ≤ 7 =
+      let l : length (boardLine h w (0 + k) []) ≤ lineLength =
       cases (member (0 + k) (h .faulty)) (λ f. rw (line-faulty (0 + k) [] f) (omega arith)) (λ f. omega (arith, line-size (0 + k) f)) in
       omega (arith, e, l, print-short k)
 
@@ -112,12 +118,12 @@ module _ (h : Head) (w : Boards) where
   line-healthy i r ev es f =
       cases (eqb i (h .plan .dealer))
       (λ d. rw d (sym (line-dealer i [] f d)))
-      (λ d. rw d (ap₂ (λ v s. printed i v (asSet s) []) ev es ∙ sym (line-other i [] f d)))
+      (λ d. rw d (ap₂ (λ v s. printed i v (asSet s) (heldAt (listed (h .plan)) (asSet s)) []) ev es ∙ sym (line-other i [] f d)))
 
   -- A turn of the loop: the line is stored after those before it, or there is none.
   pub one-more : (i used : ℕ) (out₀ out next line : List ℕ) → used ≡ length (printBoards h w 0 i) → out ≡ sets out₀ 0 (printBoards h w 0 i)
       → member i (h .faulty) ≡ false → line ≡ boardLine h w i [] → next ≡ sets out used line
-      → (used + 7 ≡ length (printBoards h w 0 (i + 1))) × (next ≡ sets out₀ 0 (printBoards h w 0 (i + 1)))
+      → (used + lineLength ≡ length (printBoards h w 0 (i + 1))) × (next ≡ sets out₀ 0 (printBoards h w 0 (i + 1)))
   one-more i used out₀ out next line eu eo f el en =
       let e = lines-more i in
       let size = ap length e ∙ length-append (printBoards h w 0 i) (boardLine h w i []) in (
@@ -158,7 +164,7 @@ module _ (h : Head) (w w′ : Boards) where
       (λ f. cases (eqb i (h .plan .dealer))
       (λ d. line-dealer h w i rest f d ∙ sym (line-dealer h w′ i rest f d))
       (λ d. line-other h w i rest f d
-      ∙ ap (λ (r : Record). printed i (r .decision) (r .list) rest) (same f (eqb-false i (h .plan .dealer) d))
+      ∙ ap (λ (r : Record). keeperLine h r i rest) (same f (eqb-false i (h .plan .dealer) d))
       ∙ sym (line-other h w′ i rest f d)))
 
   pub print-same : (k : ℕ) → ((i : ℕ) → i < k → member i (h .faulty) ≡ false → i ≢ h .plan .dealer → boardAt w i .rec ≡ boardAt w′ i .rec)

@@ -3,7 +3,7 @@
 use Prim.Native.Nat.{ℕ, suc, _+_, _≤_}
 use mathlib.Core.Path.{_≡_, refl, ap, _∙_}
 use mathlib.Core.List.{List, [], _∷_, _++_}
-use native.Mathlib.Numerals.{add-two, add-four, add-six}
+use native.Mathlib.Numerals.{add-two, add-four, add-six, add-eight}
 use native.Mathlib.Omega.{arith}
 use lib.ListN.{length, drop, set}
 use lib.Seq.{sets, sets-eq}
@@ -22,8 +22,8 @@ stores-first l a h =
     let z : 0 + length a ≡ length a = omega arith in
     sets-eq a l 0 (omega arith) ∙ ap (λ k. a ++ drop k l) z
 
-pub line-stores : (o : List ℕ) (at board decision list : ℕ)
-    → set (sets (sets (sets o at (hexByte board [])) (at + 2) (hexValue decision [])) (at + 4) (hexByte list [])) (at + 6) 10
-    ≡ sets o at (printed board decision list [])
+pub line-stores : (o : List ℕ) (at board decision list place : ℕ)
+    → set (sets (sets (sets (sets o at (hexByte board [])) (at + 2) (hexValue decision [])) (at + 4) (hexByte list [])) (at + 6) (hexByte place [])) (at + 8) 10
+    ≡ sets o at (printed board decision list place [])
 unfolding encode hexByte hexBytes hexValue printed
-line-stores o at board decision list = rw (add-two at, add-four at, add-six at) refl
+line-stores o at board decision list place = rw (add-two at, add-four at, add-six at, add-eight at) refl

@@ -4,6 +4,8 @@ use mathlib.Core.Bool.{_&&_, cond}
 use mathlib.Core.List.{List, [], map, _++_}
 use lib.Dec.{eqb, leb}
 use lib.ListN.{length, drop}
+use Rattle.sets.specs.Structure.{heldAt}
+use Rattle.plan.specs.Listed.{listed}
 use Rattle.protocol.specs.Limits.{outputNeeded}
 use Rattle.protocol.specs.declared.records.Record.{Record}
 use Rattle.protocol.specs.Listing.{asSet}
@@ -16,9 +18,12 @@ use Rattle.protocol.specs.Rounds.{boardWith}
 unfoldable pub boardsOf : List Record → Boards
 boardsOf records = map (λ r. boardWith r ([])) records
 
--- The line of board i, outside F, with record r: the dealer's has its value and an empty list.
+-- The line of board i, outside F, with record r: the dealer's has its value, an empty list and place 0.
 unfoldable pub healthyLine : Head → ℕ → Record → List ℕ → List ℕ
-healthyLine h i r rest = cond (eqb i (h .plan .dealer)) (printed i (h .word) 0 rest) (printed i (r .decision) (asSet (r .list)) rest)
+healthyLine h i r rest =
+    let list = asSet (r .list) in
+    let keepers = printed i (r .decision) list (heldAt (listed (h .plan)) list) rest in
+    cond (eqb i (h .plan .dealer)) (printed i (h .word) 0 0 rest) keepers
 
 -- The lines of all boards outside F; nothing for more than seven boards, or if the output is too short.
 unfoldable pub boardLines : Head → List Record → List ℕ → List ℕ

@@ -8,6 +8,7 @@ use protocol::limits::OUTPUT;
 use protocol::records::Record;
 use sets::boards::member;
 use sheet::head::Head;
+use tables::listed::held_at;
 ghost use mathlib.Core.Path.{_≡_};
 ghost use mathlib.Core.List.{[]};
 ghost use Prim.Native.Nat.{_+_, _*_, _≤_};
@@ -26,34 +27,38 @@ fn print_value(out: &mut [u8], at: usize, v: Value)
     print_byte(out, at, v);
 }
 
-// Where a line's decision stands, its list, and its newline.
+// Where a line's decision stands, its list, its place, and its newline.
 const DECISION: usize = 2;
 
 const LIST: usize = DECISION + 2 * WIDTH;
 
+const PLACE: usize = LIST + 2;
+
 const NEWLINE: usize = LINE - 1;
 
-// A board's line: board, decision, list as a set.
-fn print_line(out: &mut [u8], at: usize, board: u8, decision: Value, list: u8)
+// A board's line: board, decision, list as a set, the list's place.
+fn print_line(out: &mut [u8], at: usize, board: u8, decision: Value, list: u8, place: u8)
     requires { ⌜ at + lineLength ≤ length (now out) ⌝ }
-    ensures { λ _. ⌜ now (out .exit) ≡ sets (now (out .entry)) at (printed board decision list []) ⌝ }
+    ensures { λ _. ⌜ now (out .exit) ≡ sets (now (out .entry)) at (printed board decision list place []) ⌝ }
 {
     print_byte(out, at, board);
     print_value(out, at + DECISION, decision);
     print_byte(out, at + LIST, list);
+    print_byte(out, at + PLACE, place);
     out[at + NEWLINE] = 10;
 }
 
-// The line of board i, which is outside F: the dealer has its own value and an empty list.
+// The line of board i, which is outside F: the dealer has its own value, an empty list and place 0.
 fn print_board(head: Head, i: u8, r: Record, out: &mut [u8], at: usize)
     requires { ⌜ at + lineLength ≤ length (now out) ⌝ }
     ensures { λ _. ⌜ now (out .exit) ≡ sets (now (out .entry)) at (healthyLine head i r []) ⌝ }
 {
     let dealer = head.plan.dealer;
     if i == dealer {
-        print_line(out, at, i, head.word, 0);
+        print_line(out, at, i, head.word, 0, 0);
     } else {
-        print_line(out, at, i, r.decision, as_set(r.list));
+        let list = as_set(r.list);
+        print_line(out, at, i, r.decision, list, held_at(head.plan, list));
     }
 }
 

@@ -6,11 +6,11 @@ use Rattle.codec.specs.Codec.{width}
 abbrev pub sheetMost : ℕ
 sheetMost = 65536
 
--- The characters of a printed line: board, decision, list, two digits a byte, and a newline.
+-- The characters of a printed line: board, decision, list, place, two digits a byte, and a newline.
 abbrev pub lineLength : ℕ
-lineLength = 2 + 2 * width + 2 + 1
+lineLength = 2 + 2 * width + 2 + 2 + 1
 
--- 01: "17: output under 49 bytes": a line for each of seven boards.
+-- 02 c: "the output needs 63 bytes": a line for each of seven boards.
 abbrev pub outputNeeded : ℕ
 outputNeeded = 7 * lineLength
 

@@ -4,8 +4,8 @@ use codec::value::WIDTH;
 // The longest sheet, in bytes.
 pub const SHEET: usize = 65536;
 
-// A printed line, in characters: board, decision, list, two digits a byte, and a newline.
-pub const LINE: usize = 2 + 2 * WIDTH + 2 + 1;
+// A printed line, in characters: board, decision, list, place, two digits a byte, and a newline.
+pub const LINE: usize = 2 + 2 * WIDTH + 2 + 2 + 1;
 
 // The output that playing needs: a line for each of seven boards.
 pub const OUTPUT: usize = 7 * LINE;

@@ -7,7 +7,7 @@ use mathlib.Core.Bool.{Bool, true, false, not, _&&_, _||_, or-comm, and-false}
 use native.Mathlib.Nat.{mod-eq-of-lt, mul-add-mod-self-right, div-div-eq-div-mul, pow-succ', pow-suc, div-one, div-eq-of-lt, one-mul}
 use native.Mathlib.Omega.{arith}
 use lib.Dec.{eqb, ltb}
-use lib.Bits.{bitAnd, bitOr, and-step, or-step, and-shr, or-shr, and-le-l, and-self, and-mask, mask-lt, or-lt, or-shifted-r}
+use lib.Bits.{bitAnd, bitOr, and-step, or-step, and-shr, or-shr, and-le-l, and-le-r, and-self, and-mask, mask-lt, or-lt, or-shifted-r}
 use lib.Pow.{pow-mono, pow-lt, pow-pos, pow-add, shl-shr, high, ones-lt, ones-split}
 use borrow.Author.Tests.{eqb-true, eqb-false, eq-eqb, ltb-true, ltb-false, lt-ltb, le-ltb}
 use Rattle.sets.specs.Search.{count}
@@ -213,6 +213,10 @@ member-within k a s h f =
 pub no-member : (k a : ℕ) → a < 2 ^ k → ((i : ℕ) → i < k → member i a ≡ false) → a ≡ 0
 no-member k a h f =
     bits-equal k a 0 h (pow-pos k) (λ i l. not-member-bit i a (f i l) ∙ sym (not-member-bit i 0 (member-empty i)))
+
+pub within-le : (a s : ℕ) → within a s ≡ true → a ≤ s
+unfolding within
+within-le a s e = let q : bitAnd a s ≡ a = eqb-true (bitAnd a s) a e in omega (arith, and-le-r a s)
 
 pub within-refl : (a : ℕ) → within a a ≡ true
 unfolding within

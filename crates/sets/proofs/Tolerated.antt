@@ -12,10 +12,10 @@ use lib.ListN.{length, getD}
 use borrow.Author.Tests.{eqb-true, eqb-false, ne-eqb, lt-ltb, le-ltb, ltb-true, ltb-false}
 use Rattle.sets.specs.Search.{first}
 use Rattle.sets.specs.Sets.{member, within}
-use Rattle.sets.specs.Structure.{holder, isSome, tolerated}
+use Rattle.sets.specs.Structure.{holder, heldAt, isSome, tolerated}
 use Rattle.sets.proofs.Tests.{cases, clash}
 use Rattle.sets.proofs.Search.{first-true, first-false, first-least}
-use Rattle.sets.proofs.Member.{within-member, member-within, no-member, member-empty, within-empty}
+use Rattle.sets.proofs.Member.{within-member, member-within, no-member, member-empty, within-le, within-empty}
 
 module _ (sets : List ℕ) where
   -- The search behind `holder`.
@@ -34,6 +34,36 @@ module _ (sets : List ℕ) where
   pub holder-none : (a i : ℕ) → a ≢ 0 → i ≡ first (holds a) (length sets) 0 → length sets ≤ i → holder sets a ≡ none
   unfolding holder
   holder-none a i ne e l = rw (ne-eqb a 0 ne, ← e, le-ltb i (length sets) l)
+
+  -- The place as a byte.
+  pub held-some : (a i : ℕ) → holder sets a ≡ some i → heldAt sets a ≡ i
+  unfolding heldAt
+  held-some a i e = rw e
+
+  pub held-none : (a : ℕ) → holder sets a ≡ none → heldAt sets a ≡ 255
+  unfolding heldAt
+  held-none a e = rw e
+
+  pub held-empty : heldAt sets 0 ≡ 0
+  held-empty = held-some 0 0 holder-empty
+
+  pub held-byte : (a : ℕ) → length sets ≤ 255 → heldAt sets a ≤ 255
+  held-byte a short =
+      let f = first (holds a) (length sets) 0 in
+      cases (eqb a 0)
+      (λ e. rw (eqb-true a 0 e, held-empty) (omega arith))
+      (λ e. cases (ltb f (length sets))
+      (λ b. omega (arith, held-some a f (holder-at a f (eqb-false a 0 e) refl (ltb-true f (length sets) b)), ltb-true f (length sets) b))
+      (λ b. omega (arith, held-none a (holder-none a f (eqb-false a 0 e) refl (ltb-false f (length sets) b)))))
+
+  -- A set is tolerated exactly if it has a place.
+  pub tolerated-at : (a i : ℕ) → holder sets a ≡ some i → tolerated sets a ≡ true
+  unfolding tolerated isSome
+  tolerated-at a i e = rw e
+
+  pub tolerated-nowhere : (a : ℕ) → holder sets a ≡ none → tolerated sets a ≡ false
+  unfolding tolerated isSome
+  tolerated-nowhere a e = rw e
 
   pub tolerated-empty : tolerated sets 0 ≡ true
   unfolding tolerated isSome
@@ -90,6 +120,9 @@ module _ (sets : List ℕ) where
       (λ w. let (i, l, e) = w in
       listed-tolerated a i l (member-within k a (getD sets i 0) la (λ q lq m. within-member b (getD sets i 0) e q (h q lq m))))
       (tolerated-listed b t)
+
+  pub tolerated-within : (k a b : ℕ) → b < 2 ^ k → within a b ≡ true → tolerated sets b ≡ true → tolerated sets a ≡ true
+  tolerated-within k a b h w t = tolerated-mono k a b (omega (arith, within-le a b w)) (λ i _ m. within-member a b w i m) t
 
   -- Tolerated exactly if it is empty or some listed set has all its members.
   pub tolerated-iff : (k a : ℕ) → a < 2 ^ k

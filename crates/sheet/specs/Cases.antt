@@ -93,11 +93,14 @@ allHold (r ∷ rs) = holds r && allHold rs
 unfoldable pub example1 : List ℕ
 example1 = 0x07 ∷ 0x09 ∷ 0x12 ∷ 0x22 ∷ 0x0C ∷ []
 
--- A head with the sets 01, 02, 04, 08: 0410, the two digits of the default, 0000050401020408, 0, the digit of F, and a newline.
+-- A head: 0, the digit of n, 10, the two digits of the default, 000005, the digits of s and the sets, 0, the digit of F, and a newline.
+unfoldable pub headLine : ℕ → ℕ → ℕ → List ℕ → ℕ → List ℕ
+headLine n x y sets f =
+    0x30 ∷ n ∷ 0x31 ∷ 0x30 ∷ x ∷ y ∷ 0x30 ∷ 0x30 ∷ 0x30 ∷ 0x30 ∷ 0x30 ∷ 0x35 ∷ (sets ++ (0x30 ∷ f ∷ 0x0A ∷ []))
+
+-- One with four boards and the sets 01, 02, 04, 08.
 unfoldable pub fourHead : ℕ → ℕ → ℕ → List ℕ
-fourHead x y f =
-    0x30 ∷ 0x34 ∷ 0x31 ∷ 0x30 ∷ x ∷ y ∷ 0x30 ∷ 0x30 ∷ 0x30 ∷ 0x30 ∷ 0x30 ∷ 0x35 ∷ 0x30 ∷ 0x34 ∷ 0x30 ∷ 0x31 ∷ 0x30 ∷ 0x32 ∷ 0x30 ∷ 0x34
-    ∷ 0x30 ∷ 0x38 ∷ 0x30 ∷ f ∷ 0x0A ∷ []
+fourHead x y f = headLine 0x34 x y (0x30 ∷ 0x34 ∷ 0x30 ∷ 0x31 ∷ 0x30 ∷ 0x32 ∷ 0x30 ∷ 0x34 ∷ 0x30 ∷ 0x38 ∷ []) f
 
 -- The head of cases 7 and 8, 041000000005040102040801. 02 b: "cases 7 to 9 hold 00 there".
 unfoldable pub head7 : List ℕ
@@ -107,10 +110,16 @@ head7 = fourHead 0x30 0x30 0x31
 unfoldable pub head9 : List ℕ
 head9 = fourHead 0x30 0x30 0x38
 
--- A head with no sets: 0, the digit of n, 100000000500, 0, the digit of F, and a newline.
+-- A head with no sets and the default 0.
 unfoldable pub bareHead : ℕ → ℕ → List ℕ
-bareHead n f =
-    0x30 ∷ n ∷ 0x31 ∷ 0x30 ∷ 0x30 ∷ 0x30 ∷ 0x30 ∷ 0x30 ∷ 0x30 ∷ 0x30 ∷ 0x30 ∷ 0x35 ∷ 0x30 ∷ 0x30 ∷ 0x30 ∷ f ∷ 0x0A ∷ []
+bareHead n f = headLine n 0x30 0x30 (0x30 ∷ 0x30 ∷ []) f
+
+-- Heads with four boards and the default 0: the five sets 08, 01, 01, 02, 04; and the two sets 00 and 09.
+unfoldable pub laterHead : ℕ → List ℕ
+laterHead f = headLine 0x34 0x30 0x30 (0x30 ∷ 0x35 ∷ 0x30 ∷ 0x38 ∷ 0x30 ∷ 0x31 ∷ 0x30 ∷ 0x31 ∷ 0x30 ∷ 0x32 ∷ 0x30 ∷ 0x34 ∷ []) f
+
+unfoldable pub pairHead : ℕ → List ℕ
+pairHead f = headLine 0x34 0x30 0x30 (0x30 ∷ 0x32 ∷ 0x30 ∷ 0x30 ∷ 0x30 ∷ 0x39 ∷ []) f
 
 -- 010100, a receiver's digits, and a value's digits, and a newline: a frame of the dealer.
 unfoldable pub dealerLine : ℕ → ℕ → List ℕ
@@ -121,13 +130,21 @@ dealerLine i v =
 unfoldable pub misfitLine : ℕ → List ℕ
 misfitLine i = 0x30 ∷ 0x31 ∷ 0x30 ∷ 0x31 ∷ 0x30 ∷ 0x30 ∷ 0x30 ∷ i ∷ 0x30 ∷ 0x39 ∷ 0x30 ∷ 0x39 ∷ 0x0A ∷ []
 
+-- 010203, a receiver's digits, and a value's digits, and a newline: a frame of board 3 in round 2.
+unfoldable pub liarLine : ℕ → ℕ → List ℕ
+liarLine i v = 0x30 ∷ 0x31 ∷ 0x30 ∷ 0x32 ∷ 0x30 ∷ 0x33 ∷ 0x30 ∷ i ∷ 0x30 ∷ v ∷ 0x0A ∷ []
+
 -- 0102030109 and a newline.
 unfoldable pub liar9 : List ℕ
-liar9 = 0x30 ∷ 0x31 ∷ 0x30 ∷ 0x32 ∷ 0x30 ∷ 0x33 ∷ 0x30 ∷ 0x31 ∷ 0x30 ∷ 0x39 ∷ 0x0A ∷ []
+liar9 = liarLine 0x31 0x39
 
--- A printed line: 0, a board's digit, 0, a value's digit, 0, a set's digit, and a newline.
+-- A printed line: 0, a board's digit, 0, a value's digit, 0, a set's digit, 0, a place's digit, and a newline.
+unfoldable pub placedLine : ℕ → ℕ → ℕ → ℕ → List ℕ
+placedLine i v s k = 0x30 ∷ i ∷ 0x30 ∷ v ∷ 0x30 ∷ s ∷ 0x30 ∷ k ∷ 0x0A ∷ []
+
+-- One with the place 00. 02 c: "00 in cases 7 to 9".
 unfoldable pub printedLine : ℕ → ℕ → ℕ → List ℕ
-printedLine i v s = 0x30 ∷ i ∷ 0x30 ∷ v ∷ 0x30 ∷ s ∷ 0x0A ∷ []
+printedLine i v s = placedLine i v s 0x30
 
 -- What a board's part holds at the end: the decision, and FF.
 unfoldable pub decidedPart : ℕ → List ℕ
@@ -136,6 +153,10 @@ decidedPart v = v ∷ replicate 15 0xFF
 -- A part that is left alone.
 unfoldable pub alone : List ℕ
 alone = replicate 16 7
+
+-- The parts if board 0 is the dealer and boards 1 and 2 decide 5.
+unfoldable pub fiveParts : List ℕ
+fiveParts = alone ++ (decidedPart 5 ++ decidedPart 5)
 
 -- What boards 1, 2 and 3 print if they decide 7 and list the set with this digit; and what the parts hold.
 unfoldable pub sevenLines : ℕ → List ℕ
@@ -168,25 +189,25 @@ caseTable =
     ∷ schedule 7 (0x3F ∷ []) 6 5 1 1 1
     ∷ schedule 7 (0x3F ∷ []) 6 0 1 1 1
     ∷ schedule 7 (0x3F ∷ []) 6 7 1 1 1
-    -- 7: values 05, 05, 07; then 010500, 020500, 030500
+    -- 7: values 05, 05, 07; then 01050000, 02050000, 03050000
     ∷ sheet (head7 ++ (dealerLine 0x31 0x35 ++ (dealerLine 0x32 0x35 ++ dealerLine 0x33 0x37)))
     (printedLine 0x31 0x35 0x30 ++ (printedLine 0x32 0x35 0x30 ++ printedLine 0x33 0x35 0x30))
     (alone ++ (decidedPart 5 ++ (decidedPart 5 ++ decidedPart 5)))
-    -- 8: values 05, 07, 09; then 010001, 020001, 030001
+    -- 8: values 05, 07, 09; then 01000100, 02000100, 03000100
     ∷ sheet (head7 ++ (dealerLine 0x31 0x35 ++ (dealerLine 0x32 0x37 ++ dealerLine 0x33 0x39)))
     (printedLine 0x31 0x30 0x31 ++ (printedLine 0x32 0x30 0x31 ++ printedLine 0x33 0x30 0x31))
     (alone ++ (decidedPart 0 ++ (decidedPart 0 ++ decidedPart 0)))
-    -- 9: then 000500, 010500, 020500
+    -- 9: then 00050000, 01050000, 02050000
     ∷ sheet (head9 ++ liar9)
     (printedLine 0x30 0x35 0x30 ++ (printedLine 0x31 0x35 0x30 ++ printedLine 0x32 0x35 0x30))
-    (alone ++ (decidedPart 5 ++ decidedPart 5))
+    fiveParts
     -- sheets that are turned down: an empty one, FF160001; case 9 with its frame twice, FF180003
     ∷ refusedSheet [] (0x46 ∷ 0x46 ∷ 0x31 ∷ 0x36 ∷ 0x30 ∷ 0x30 ∷ 0x30 ∷ 0x31 ∷ 0x0A ∷ [])
     ∷ refusedSheet (head9 ++ (liar9 ++ liar9)) (0x46 ∷ 0x46 ∷ 0x31 ∷ 0x38 ∷ 0x30 ∷ 0x30 ∷ 0x30 ∷ 0x33 ∷ 0x0A ∷ [])
     -- 10
     ∷ stored 16 0 0x00 (0x0F ∷ []) 0x0F
     ∷ stored 16 0 0x00 (0x10 ∷ []) 0
-    -- 02 a, no sets: n = 1 prints 000500; n = 4 prints 000500, 010500, 020500, 030500; F = 01 is turned down, FF170001
+    -- 02 a, no sets: n = 1 prints 00050000; n = 4 prints 00050000, 01050000, 02050000, 03050000; F = 01 is turned down, FF170001
     ∷ admit 1 [] 0 []
     ∷ admit 4 [] 0 []
     ∷ schedule 1 [] 0 0 1 1 1
@@ -220,4 +241,13 @@ caseTable =
     ∷ refuse 4 (0x01 ∷ 0x02 ∷ 0x04 ∷ 0x08 ∷ []) 0 16 15 3 8
     ∷ refuse 4 (0x01 ∷ 0x02 ∷ 0x04 ∷ 0x08 ∷ []) 0 16 15 0 0
     ∷ refusedSheet (fourHead 0x31 0x30 0x31) (0x46 ∷ 0x46 ∷ 0x31 ∷ 0x41 ∷ 0x30 ∷ 0x30 ∷ 0x30 ∷ 0x31 ∷ 0x0A ∷ [])
+    -- 02 c, the place of a list. As 8 with the sets 08, 01, 01, 02, 04: the first that holds 01 is at 1, 01000101, 02000101, 03000101
+    ∷ sheet (laterHead 0x31 ++ (dealerLine 0x31 0x35 ++ (dealerLine 0x32 0x37 ++ dealerLine 0x33 0x39)))
+    (placedLine 0x31 0x30 0x31 0x31 ++ (placedLine 0x32 0x30 0x31 0x31 ++ placedLine 0x33 0x30 0x31 0x31))
+    (alone ++ (decidedPart 0 ++ (decidedPart 0 ++ decidedPart 0)))
+    -- the sets 00 and 09, F = 08; board 3 tells board 1 that the dealer said 05, and board 2 that it said 07: both list it, at place 1,
+    -- and the dealer's place is 00: 00050000, 01050801, 02050801
+    ∷ sheet (pairHead 0x38 ++ (liarLine 0x31 0x35 ++ liarLine 0x32 0x37))
+    (placedLine 0x30 0x35 0x30 0x30 ++ (placedLine 0x31 0x35 0x38 0x31 ++ placedLine 0x32 0x35 0x38 0x31))
+    fiveParts
     ∷ []

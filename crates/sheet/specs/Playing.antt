@@ -8,6 +8,8 @@ use lib.ListN.{length, getD, take, drop}
 use Rattle.codec.specs.Codec.{encode, decode}
 use Rattle.hex.specs.Hex.{hexByte, hexBytes}
 use Rattle.sets.specs.Sets.{member}
+use Rattle.sets.specs.Structure.{heldAt}
+use Rattle.plan.specs.Listed.{listed}
 use Rattle.schedule.specs.declared.rounds.Run.{Run}
 use Rattle.schedule.specs.declared.rounds.Round.{Round}
 use Rattle.schedule.specs.Schedule.{steps, stepRun, stepRound}
@@ -53,16 +55,17 @@ finalBoards h fs cells = session (setting h cells) (sheetAdversary h fs) (steps 
 unfoldable pub hexValue : ℕ → List ℕ → List ℕ
 hexValue v rest = hexBytes (encode (v ∷ [])) rest
 
--- 01: "prints for each board outside F, rising: board, decision, list as a set".
-unfoldable pub printed : ℕ → ℕ → ℕ → List ℕ → List ℕ
-printed i decision list rest = hexByte i (hexValue decision (hexByte list (10 ∷ rest)))
+-- 01: "prints for each board outside F, rising: board, decision, list as a set"; 02 c: "Each printed line gains a fourth byte".
+unfoldable pub printed : ℕ → ℕ → ℕ → ℕ → List ℕ → List ℕ
+printed i decision list place rest = hexByte i (hexValue decision (hexByte list (hexByte place (10 ∷ rest))))
 
--- The line of board i: the dealer's has its value and an empty list.
+-- The line of board i. 02 c: "the place for that board's list, 00 for the dealer". The dealer's line has its value and an empty list.
 unfoldable pub boardLine : Head → Boards → ℕ → List ℕ → List ℕ
 boardLine h w i rest =
     let b = boardAt w i in
-    cond (member i (h .faulty)) rest
-    (cond (eqb i (h .plan .dealer)) (printed i (h .word) 0 rest) (printed i (b .rec .decision) (asSet (b .rec .list)) rest))
+    let list = asSet (b .rec .list) in
+    let keepers = printed i (b .rec .decision) list (heldAt (listed (h .plan)) list) rest in
+    cond (member i (h .faulty)) rest (cond (eqb i (h .plan .dealer)) (printed i (h .word) 0 0 rest) keepers)
 
 -- The lines of the boards i to i + k - 1.
 unfoldable pub printBoards : Head → Boards → ℕ → ℕ → List ℕ

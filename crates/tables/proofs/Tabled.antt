@@ -2,15 +2,13 @@
 -- Assumes nothing.
 use Prim.Native.Nat.{ℕ, _≤_, _<_, _^_}
 use mathlib.Core.Path.{_≡_, ap, _∙_}
-use mathlib.Core.Bool.{not}
 use mathlib.Core.List.{List}
 use native.Mathlib.Omega.{arith}
-use lib.Dec.{eqb}
-use lib.ListN.{length, getD}
+use lib.ListN.{length}
 use lib.Pow.{pow-mono}
 use Rattle.sets.specs.Structure.{tolerated}
-use Rattle.holders.specs.Holders.{Asked}
-use Rattle.holders.proofs.Held.{table-length, table-at, held-tolerated}
+use Rattle.holders.specs.Holders.{holds, Asked}
+use Rattle.holders.proofs.Held.{table-length, table-tolerated}
 use Rattle.plan.specs.declared.plan.Plan.{Plan}
 use Rattle.plan.specs.Listed.{listed}
 use Rattle.tables.specs.Tabled.{Askable}
@@ -23,8 +21,5 @@ module _ {p : Plan} {holders : List ℕ} {a : ℕ} (q : Askable p holders a) whe
   pub asked : Asked holders a
   asked = record { whole = ap length (q .tabled .table) ∙ table-length (listed p); small = small-set p a (q .tabled .most-boards) (q .below) }
 
-  pub held-is : not (eqb (getD holders a 255) 255) ≡ tolerated (listed p) a
-  held-is =
-      ap (λ h. not (eqb (getD h a 255) 255)) (q .tabled .table)
-      ∙ ap (λ x. not (eqb x 255)) (table-at (listed p) a (small-set p a (q .tabled .most-boards) (q .below)))
-      ∙ held-tolerated (listed p) a (q .tabled .few-sets)
+  pub held-is : holds holders a ≡ tolerated (listed p) a
+  held-is = table-tolerated (listed p) holders a (q .tabled .table) (q .tabled .few-sets) (small-set p a (q .tabled .most-boards) (q .below))

@@ -1,2 +1,3 @@
-// Is a set of boards tolerated by a list of sets, and which listed set holds it.
+// The test whether a set of boards is tolerated: which listed set holds it first.
+pub mod bytes;
 pub mod structure;

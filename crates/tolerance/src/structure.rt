@@ -1,8 +1,8 @@
 // Adversary structures, given by listed sets.
 use sets::boards::within;
 ghost use mathlib.Core.Path.{_≡_};
-ghost use Rattle.sets.specs.Structure.{holder, tolerated};
-ghost use Rattle.tolerance.specs.Places.{place};
+ghost use Rattle.sets.specs.Structure.{holder};
+ghost use Rattle.tolerance.specs.Places.{placeSays, foundAt};
 
 // The place of a listed set, from 0, or word that there is none.
 pub enum Place {
@@ -10,9 +10,9 @@ pub enum Place {
     Nowhere,
 }
 
-// The first listed set that holds a.
+// The test whether a is tolerated: the first listed set that holds it.
 pub fn holder(sets: &[u8], a: u8) -> Place
-    ensures { λ r. ⌜ place r ≡ holder (now (sets .entry)) a ⌝ }
+    ensures { λ r. ⌜ placeSays r ≡ foundAt (holder (now (sets .entry)) a) ⌝ }
 {
     if a == 0 {
         return Place::At(0);
@@ -25,14 +25,4 @@ pub fn holder(sets: &[u8], a: u8) -> Place
         i += 1;
     }
     Place::Nowhere
-}
-
-// Is a tolerated?
-pub fn is_tolerated(sets: &[u8], a: u8) -> bool
-    ensures { λ r. ⌜ r ≡ tolerated (now (sets .entry)) a ⌝ }
-{
-    match holder(sets, a) {
-        Place::At(_) => true,
-        Place::Nowhere => false,
-    }
 }

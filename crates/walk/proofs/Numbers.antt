@@ -9,7 +9,7 @@ use native.Mathlib.Omega.{arith}
 use native.Mathlib.Nat.{one-mul}
 use lib.Bits.{bitAnd, bitOr, and-high, and-zero-r, or-lt}
 use lib.Dec.{eqb, ltb}
-use lib.ListN.{length, length-take, getD}
+use lib.ListN.{length, length-take}
 use lib.Pow.{pow-lt, pow-pos, pow-add}
 use borrow.Author.Tests.{eq-eqb, ne-eqb, eqb-true, eqb-false, lt-ltb, ltb-false}
 use Rattle.sets.specs.Sets.{member, insert}
@@ -18,7 +18,7 @@ use Rattle.holders.specs.Holders.{holderTable}
 use Rattle.sets.proofs.Tests.{cases}
 use Rattle.sets.proofs.Count.{count-in, count-out, count-zero}
 use Rattle.sets.proofs.Member.{member-high}
-use Rattle.holders.proofs.Held.{table-at, held-tolerated}
+use Rattle.holders.proofs.Held.{table-tolerated}
 use Rattle.plan.specs.declared.plan.Plan.{Plan}
 use Rattle.plan.specs.Listed.{listed}
 use Rattle.schedule.specs.Schedule.{rounds}
@@ -126,8 +126,7 @@ module _ (p : Plan) (q i : ℕ) (holders : List ℕ) (table : holders ≡ holder
   is-open : (α : Label) → mask α < 128 → length α < rounds p .0 → isOpen holders (bitOr (single q) (barred p i)) (mask α) ≡ carries p q i α
   unfolding isOpen isInternal
   is-open α h l =
-      let held : not (eqb (getD holders (mask α) 255) 255) ≡ tolerated (listed p) (mask α) =
-      ap (λ x. not (eqb (getD x (mask α) 255) 255)) table ∙ ap (λ x. not (eqb x 255)) (table-at (listed p) (mask α) h) ∙ held-tolerated (listed p) (mask α) listed-few in
+      let held = table-tolerated (listed p) holders (mask α) table listed-few h in
       let out = single-apart q (mask α) h ∙ ap not (mask-member q α) in
       let apart : eqb (bitAnd (mask α) (bitOr (single q) (barred p i))) 0 ≡ (not (occurs q α) && eqb (bitAnd (mask α) (barred p i)) 0) =
       without-both p i (single q) (mask α) ∙ ap (λ b. b && eqb (bitAnd (mask α) (barred p i)) 0) out in

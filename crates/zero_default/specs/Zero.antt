@@ -1,5 +1,5 @@
 -- A plan with the default 0 gives what the base gave. Of the definitions to be believed `value`, `fill`, `maskBoard` and `resolveRoot`
--- read the default, `judgeSettings` judges it, and `headSettings` takes it from a sheet; the others stand on these as they stood.
+-- read the default, `judgeSettings` judges it, and `headSettings` takes it from a sheet; no other does.
 use Prim.Native.Nat.{ℕ}
 use mathlib.Core.Path.{_≡_}
 use mathlib.Core.Bool.{cond}

@@ -17,7 +17,7 @@ third-held-requires c κs =
     let i = at-first-held .first-held in
     let a = start .args in
     let t = pair-triple a.n (a.sets .now) i.result j.result (thirdHeld a.n (a.sets .now) i.result j.result) i.ensures (search needs) j.ensures refl in
-    record { tabled = search needs; first-listed = search needs; second-listed = t .second-listed }
+    record { tabled = search needs; pair = record { most-boards = search needs; first-listed = search needs; second-listed = t .second-listed } }
 
 cast-t17 : tie.Need-cast-t17
 cast-t17 c =

@@ -1,34 +1,34 @@
-use Rattle.sets.specs.Sets.{union}
+-- `third_held` meets its contract: the test of the boards that two sets leave, by the table.
+-- Assumes nothing.
+use mathlib.Core.Path.{_≡_, sym, ap, subst, _∙_}
 use borrow.Author.Needs.{needs}
-use Rattle.covering.proofs.Pairs.{third-read}
+use Rattle.tolerance.specs.Places.{placeSays, foundAt}
+use Rattle.tolerance.specs.Bytes.{placeByte}
+use Rattle.holders.specs.Holders.{holderIn, Asked}
+use Rattle.covering.specs.Pairs.{thirdHeld}
+use Rattle.covering.proofs.Pairs.{others-asked, others-third}
 use Rattle.covering.proofs.covering.third_held.Statement.{statement}
 use Rattle.covering.proofs.covering.third_held.Tie as tie
 
-shared-slice-read-result : tie.Need-shared-slice-read-result
-unfolding union
-shared-slice-read-result c =
-    let at-outside-of = c .before in
-    let at-shared-slice-known2 = at-outside-of .before .before .before in
-    let s = at-shared-slice-known2 .before .before in
-    let a = s .args in
-    third-read a.n (a.sets .now) (a.holders .now) a.i a.j (at-outside-of .outside-of .result) (s .pre .tabled) (at-outside-of .outside-of .ensures) .0
+holder-in-requires : tie.Need-holder-in-requires
+holder-in-requires c κs =
+    let start = c .before .before .before in
+    let a = start .args in
+    subst (Asked (a.holders .now)) (sym (c .others-of .ensures)) (others-asked a.n (a.sets .now) (a.holders .now) (start .pre .tabled) a.i a.j)
+
+-- The place that the test gives, as a byte.
+third : (c : tie.After-holder-in)
+    → let known = c .before .before .before in let a = known .before .args in placeByte (placeSays (c .holder-in .result)) ≡ thirdHeld a.n (a.sets .now) a.i a.j
+third c =
+    let asked = c .before in
+    let start = asked .before .before .before in
+    let a = start .args in
+    ap placeByte (c .holder-in .ensures)
+    ∙ ap (λ x. placeByte (foundAt (holderIn (a.holders .now) x))) (asked .others-of .ensures)
+    ∙ others-third a.n (a.sets .now) (a.holders .now) (start .pre .tabled) a.i a.j
 
 returns : tie.Need-returns
-unfolding union
-returns c =
-    let at-outside-of = c .before in
-    let at-shared-slice-known2 = at-outside-of .before .before .before in
-    let s = at-shared-slice-known2 .before .before in
-    let a = s .args in
-    third-read a.n (a.sets .now) (a.holders .now) a.i a.j (at-outside-of .outside-of .result) (s .pre .tabled) (at-outside-of .outside-of .ensures) .1
+returns c = c .place-byte .ensures ∙ third (c .before)
 
 pub third-held-spec : {M : Type 1} → statement M
-third-held-spec =
-    tie.close
-    (tie.spec
-    (λ c. search needs)
-    (λ c. search needs)
-    (λ c κs. search needs)
-    (λ c. search needs)
-    shared-slice-read-result
-    returns)
+third-held-spec = tie.close (tie.spec (λ c κs. search needs) holder-in-requires (λ c κs. search needs) returns)

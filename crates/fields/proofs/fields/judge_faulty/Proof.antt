@@ -1,18 +1,16 @@
 -- `judge_faulty` meets its contract: 23.
 -- Assumes nothing.
-use Prim.Native.Nat.{_≤_, _<_, _^_, min}
+use Prim.Native.Nat.{min}
 use mathlib.Core.Path.{_≡_, refl, sym, ap, _∙_}
 use mathlib.Core.Bool.{true}
 use native.Mathlib.Omega.{arith}
-use lib.ListN.{length}
-use lib.Pow.{pow-mono}
 use borrow.Author.Needs.{needs}
 use Rattle.sets.specs.Sets.{within, boards}
-use Rattle.sets.specs.Structure.{tolerated}
-use Rattle.holders.proofs.Held.{table-length, table-tolerated}
-use Rattle.sets.proofs.Member.{within-boards}
 use Rattle.sets.proofs.Tests.{not-t, not-f}
+use Rattle.sets.proofs.Tolerated.{tolerated-at, tolerated-nowhere}
 use Rattle.refusals.specs.Outcome.{refusal, verdict}
+use Rattle.tolerance.specs.Places.{placeSays}
+use Rattle.tolerance.proofs.Places.{found-at, found-nowhere}
 use Rattle.fields.proofs.fields.judge_faulty.Statement.{statement}
 use Rattle.fields.proofs.fields.judge_faulty.Tie as tie
 
@@ -32,42 +30,20 @@ returns c = rw (sym (named (c .before)) ∙ not-t _ (c .if1 .taken)) refl
 inside : (c : tie.Else1) → let few = c .before .before .before in let a = few .before .before .args in within a.faulty (boards (min a.n 7)) ≡ true
 inside c = sym (named (c .before)) ∙ not-f _ (c .if1 .left)
 
-small : (c : tie.Else1) → let few = c .before .before .before in few .before .before .args .faulty < 128
-small c =
-    let at-at-most-seven = c .before .before .before in
-    let known = at-at-most-seven .before in
-    let a = known .before .args in
-    let most : 2 ^ min a.n 7 ≤ 2 ^ 7 = pow-mono (let z : min a.n 7 ≤ 7 = omega arith in z) in
-    omega (arith, within-boards (min a.n 7) a.faulty (inside c))
-
-holds-requires : tie.Need-holds-requires
-holds-requires c κs =
-    let made = c .before in
-    record { whole = ap length (made .holders-of .ensures) ∙ table-length _; small = small (made .before) }
-
--- The table holds the set, or not.
-held : (c : tie.After-holds)
-    → let left = c .before .before .before in let few = left .before .before .before in let e = few .before .before in c .holds .result ≡ tolerated (e .args .sets .now) (e .args .faulty)
-held c =
-    let made = c .before .before in
-    let left = made .before in
-    let at-at-most-seven = left .before .before .before in
-    let e = at-at-most-seven .before .before in
-    c .holds .ensures ∙ table-tolerated (e .args .sets .now) (made .holders-of .result) (e .args .faulty) (made .holders-of .ensures) (e .pre) (small left)
-
+-- The test of the set gives a place, or none.
 returns-2 : tie.Need-returns-2
-unfolding verdict refusal
+unfolding verdict refusal placeSays
 returns-2 c =
-    let at-holds = c .before in
-    let else1 = at-holds .before .before .before in
-    rw (inside (else1), sym (held (at-holds)) ∙ c .if2 .taken) refl
+    let at-holder = c .before .before in
+    let held = found-at _ _ (ap placeSays (sym (c .enum-told .given .1)) ∙ at-holder .holder .ensures) in
+    rw (inside (at-holder .before), tolerated-at _ _ _ held) refl
 
 returns-3 : tie.Need-returns-3
-unfolding verdict refusal
+unfolding verdict refusal placeSays
 returns-3 c =
-    let at-holds = c .before in
-    let else1 = at-holds .before .before .before in
-    rw (inside (else1), sym (held (at-holds)) ∙ c .if2 .left) refl
+    let at-holder = c .before .before in
+    let unheld = found-nowhere _ (ap placeSays (sym (c .enum-told2 .given .1)) ∙ at-holder .holder .ensures) in
+    rw (inside (at-holder .before), tolerated-nowhere _ _ unheld) refl
 
 pub judge-faulty-spec : {M : Type 1} → statement M
 judge-faulty-spec =
@@ -79,6 +55,6 @@ judge-faulty-spec =
     returns
     (λ c κs. search needs)
     (λ c. search needs)
-    holds-requires
+    (λ c. search needs)
     returns-2
     returns-3)

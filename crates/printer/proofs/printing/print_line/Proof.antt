@@ -1,4 +1,4 @@
--- `print_line` meets its contract: board, decision, list and a newline, stored one after the other.
+-- `print_line` meets its contract: board, decision, list, place and a newline, stored one after the other.
 -- Assumes nothing.
 use Prim.Native.Nat.{_+_}
 use mathlib.Core.Path.{ap, _∙_}
@@ -14,36 +14,45 @@ use Rattle.printer.proofs.printing.print_line.Tie as tie
 
 same-length : tie.Need-same-length
 same-length c =
-    let at-print-byte2 = c .before .before in
+    let at-print-byte3 = c .before .before in
+    let at-out3 = at-print-byte3 .before .before .before in
+    let at-print-byte2 = at-out3 .before in
     let at-out2 = at-print-byte2 .before .before .before in
     let at-print-value = at-out2 .before in
     let at-out = at-print-value .before .before .before in
     let at-print-byte = at-out .before in
     let start = at-print-byte .before .before .before in
+    let fourth = at-print-byte3 .print-byte3 in
     let third = at-print-byte2 .print-byte2 in
     let second = at-print-value .print-value in
     let first = at-print-byte .print-byte in
-    length-set (third .last .0) (start .args .at + 6) _ ∙ third .kept .0 ∙ second .kept .0 ∙ first .kept .0
+    length-set (fourth .last .0) (start .args .at + 8) _ ∙ fourth .kept .0 ∙ third .kept .0 ∙ second .kept .0 ∙ first .kept .0
 
 returns : tie.Need-returns
 returns c =
-    let at-print-byte2 = c .before .before in
+    let at-print-byte3 = c .before .before in
+    let at-out3 = at-print-byte3 .before .before .before in
+    let at-print-byte2 = at-out3 .before in
     let at-out2 = at-print-byte2 .before .before .before in
     let at-print-value = at-out2 .before in
     let at-out = at-print-value .before .before .before in
     let at-print-byte = at-out .before in
     let start = at-print-byte .before .before .before in
     let a = start .args in
+    let fourth = at-print-byte3 .print-byte3 .ensures in
     let third = at-print-byte2 .print-byte2 .ensures in
     let second = at-print-value .print-value .ensures in
     let first = at-print-byte .print-byte .ensures in
-    ap (λ o. set o (a.at + 6) 10) (third ∙ ap (λ o. sets o (a.at + 4) (hexByte a.list [])) (second ∙ ap (λ o. sets o (a.at + 2) (hexValue a.decision [])) first))
-    ∙ line-stores (a.out .now) a.at a.board a.decision a.list
+    let listed = third ∙ ap (λ o. sets o (a.at + 4) (hexByte a.list [])) (second ∙ ap (λ o. sets o (a.at + 2) (hexValue a.decision [])) first) in
+    ap (λ o. set o (a.at + 8) 10) (fourth ∙ ap (λ o. sets o (a.at + 6) (hexByte a.place [])) listed)
+    ∙ line-stores (a.out .now) a.at a.board a.decision a.list a.place
 
 pub print-line-spec : {M : Type 1} → statement M
 print-line-spec =
     tie.close
     (tie.spec
+    (λ c κs. search needs)
+    (λ c. search needs)
     (λ c κs. search needs)
     (λ c. search needs)
     (λ c κs. search needs)

@@ -1,5 +1,7 @@
+-- `holder` meets its contract: the first listed set that holds a, found from 0 on.
+-- Assumes nothing.
 use Rattle.sets.specs.Structure.{holder}
-use Rattle.tolerance.specs.Places.{place}
+use Rattle.tolerance.specs.Places.{placeSays, foundAt}
 use Rattle.sets.proofs.Search.{seek-start, seek-hit, seek-miss, seek-none}
 use Rattle.sets.proofs.Tolerated.{holds, holder-empty, holder-at, holder-none}
 use Rattle.sets.specs.Search.{first}
@@ -18,14 +20,14 @@ abbrev μ-loop : tie.MeasureT-loop
 μ-loop sets a i₀ i = length sets - i
 
 returns : tie.Need-returns Inv-loop μ-loop
-unfolding place
-returns c = let a = c .before .before .args in sym (holder-empty (a.sets .now)) ∙ ap (holder (a.sets .now)) (sym (c .if1 .taken))
+unfolding placeSays foundAt
+returns c = let a = c .before .before .args in ap foundAt (sym (holder-empty (a.sets .now)) ∙ ap (holder (a.sets .now)) (sym (c .if1 .taken)))
 
 loop-holds : tie.Need-loop-holds Inv-loop μ-loop
 loop-holds c = let a = c .before .before .args in (omega arith, seek-start (holds (a.sets .now) a.a) (length (a.sets .now)))
 
 returns-2 : tie.Need-returns-2 Inv-loop μ-loop
-unfolding place
+unfolding placeSays foundAt
 returns-2 c =
     let at-within = c .before in
     let at-loop = at-within .before .before .before in
@@ -34,7 +36,7 @@ returns-2 c =
     let a = start .args in
     let l = at-loop .loop in
     let hit = seek-hit (holds (a.sets .now) a.a) (length (a.sets .now)) l.i _ (l .inv .1) (omega arith) (sym (at-within .within .ensures) ∙ c .if2 .taken) in
-    sym (holder-at (a.sets .now) a.a l.i (else1 .if1 .left) hit (omega arith))
+    ap foundAt (sym (holder-at (a.sets .now) a.a l.i (else1 .if1 .left) hit (omega arith)))
 
 loop-again : tie.Need-loop-again Inv-loop μ-loop
 loop-again c =
@@ -46,14 +48,14 @@ loop-again c =
     (omega arith, seek-miss (holds (a.sets .now) a.a) (length (a.sets .now)) l.i _ (l .inv .1) (omega arith) (sym (at-within .within .ensures) ∙ c .if2 .left))
 
 returns-3 : tie.Need-returns-3 Inv-loop μ-loop
-unfolding place
+unfolding placeSays foundAt
 returns-3 c =
     let else1 = c .before .before in
     let start = else1 .before .before in
     let a = start .args in
     let l = c .before .loop in
     let end = seek-none (holds (a.sets .now) a.a) (length (a.sets .now)) l.i _ (l .inv .1) (omega arith) in
-    sym (holder-none (a.sets .now) a.a l.i (else1 .if1 .left) end (omega arith))
+    ap foundAt (sym (holder-none (a.sets .now) a.a l.i (else1 .if1 .left) end (omega arith)))
 
 pub holder-spec : {M : Type 1} → statement M
 holder-spec =
