@@ -41,7 +41,7 @@ done
     head -c 65480 /dev/zero | tr '\0' 7
     echo
 } >"$folder/longest"
-made longest 65536 '010500\n020500\n030500\n'
+made longest 65536 '01050000\n02050000\n03050000\n'
 
 # The same with a digit for the last newline: 21, line 4.
 {

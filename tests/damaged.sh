@@ -51,6 +51,9 @@ hurt other-default $long sed '1s/^070200/070201/'
 hurt default-for-values $deep sed '1s/^070200/07FFFE/;2,9s/^\(........\).*/\1/'
 hurt default-of-span $deep sed '1s/^070200/070202/'
 hurt no-default $deep sed '1s/^070200/0702/'
+hurt larger-set-last $deep sed '1s/.*/070200000400042B26381F1F/'
+hurt repeated-sets $long sed '1s/.*/070200000400082B2B2638381F1F1F1F/'
+hurt last-of-32 $deep sh -c 'printf 07020000040020; head -c 62 /dev/zero | tr "\0" 0; echo 1F1F; tail -n +2'
 hurt nonsense $deep head -c 3000 target/bin/bench
 
 played=0

@@ -17,6 +17,7 @@ enum { BOARDS = 7, SETS = 32, LONGEST = 65536, WIDEST = 720, NONE = 255 };
 static int n, span, default_value, dealer, depth, value, faulty, all;
 static int rounds, runs;
 static uint64_t tolerated_sets[2];
+static const uint8_t *listed; // the sets, then F, which holds every list
 
 // Nodes stand in cell order. The children of internal node t of a level stand together, from t * (children) on.
 typedef struct {
@@ -49,6 +50,15 @@ static uint8_t text[LONGEST + 2], bytes[LONGEST / 2];
 static int has(int set, int board) { return set >> board & 1; }
 
 static int tolerated(int set) { return tolerated_sets[set >> 6] >> (set & 63) & 1; }
+
+// The place of the first listed set that holds a list; 0 for the empty one.
+static int place_of(int set)
+{
+    int place = 0;
+    while (set & ~listed[place])
+        place++;
+    return place;
+}
 
 // Structures
 
@@ -283,12 +293,13 @@ static int refuse(int number, int line)
 
 static int report(void)
 {
-    char printed[49], *to = printed;
+    char printed[63], *to = printed;
     for (int rest = all & ~faulty; rest; rest &= rest - 1) {
         int board = __builtin_ctz(rest);
         to = print_byte(to, board);
         to = print_byte(to, board == dealer ? value : cells[board][1][0]);
         to = print_byte(to, lists[board]);
+        to = print_byte(to, place_of(lists[board]));
         *to++ = '\n';
     }
     return print(printed, to - printed);
@@ -319,7 +330,7 @@ static int judge_head(const uint8_t *head, int count)
 {
     if (count < 8 || count != 8 + head[6])
         return 22;
-    const uint8_t *sets = head + 7;
+    const uint8_t *sets = listed = head + 7;
     int set_count = head[6], named = 0;
     n = head[0], span = head[1], default_value = head[2], dealer = head[3], depth = head[4], value = head[5];
     faulty = head[count - 1];

@@ -4,8 +4,10 @@
 pub mod chain;
 pub mod corpus;
 pub mod keeper;
+pub mod line;
 pub mod make;
 pub mod mistake;
+pub mod places;
 pub mod plan;
 pub mod prng;
 pub mod search;
@@ -14,6 +16,7 @@ pub mod sheet;
 pub mod shrink;
 pub mod tally;
 
+pub use line::Line;
 pub use mistake::Mistake;
 pub use session::Outcome;
 pub use sheet::{Refusal, Sheet};

@@ -106,7 +106,27 @@ fn sets(n: u8, rng: &mut Prng) -> Vec<Set> {
             sets = longer;
         }
     }
+    stretch(&mut sets, rng);
     sets
+}
+
+/// At times adds repeats and parts of listed sets, up to 32, and at times puts larger sets later: sets get other
+/// places, and the same sets are tolerated.
+fn stretch(sets: &mut Vec<Set>, rng: &mut Prng) {
+    if sets.is_empty() || rng.chance(1, 2) {
+        return;
+    }
+    let (more, parts) = (rng.pick(&[0, 1, 2, 4, 32]), rng.pick(&[1, 3]));
+    for _ in 0..more.min(32 - sets.len()) {
+        let mut set = rng.pick(sets);
+        if rng.chance(parts, 3) {
+            set &= rng.byte();
+        }
+        sets.insert(rng.below(sets.len() + 1), set);
+    }
+    if rng.chance(1, 2) {
+        sets.sort_by_key(|s| s.count_ones());
+    }
 }
 
 /// All sets of fewer than a third of the boards.
@@ -126,7 +146,7 @@ fn two_sided(n: u8, rng: &mut Prng) -> Vec<Set> {
     sets
 }
 
-/// A tolerated set of faulty boards, often a whole listed set; the empty set if none is listed.
+/// A tolerated set of faulty boards: often a whole listed set, at times without the dealer, empty if none is listed.
 fn faulty(plan: &Plan, rng: &mut Prng) -> Set {
     let sets = &plan.sets;
     if sets.is_empty() {
@@ -138,15 +158,22 @@ fn faulty(plan: &Plan, rng: &mut Prng) -> Set {
         .filter(|s| has(*s, plan.dealer))
         .collect();
     let set = if !holding.is_empty() && rng.chance(1, 2) {
-        rng.pick(&holding)
+        draw(&holding, rng)
     } else {
-        rng.pick(sets)
+        draw(sets, rng)
     };
-    if rng.chance(5, 6) {
-        set
-    } else {
-        set & rng.byte()
+    match rng.below(6) {
+        0 => set & rng.byte(),
+        1 => set & !set_of([plan.dealer]),
+        _ => set,
     }
+}
+
+/// One of these sets, at times a large one.
+fn draw(sets: &[Set], rng: &mut Prng) -> Set {
+    let tries = rng.pick(&[1, 1, 30]);
+    let drawn = (0..tries).map(|_| rng.pick(sets));
+    drawn.max_by_key(|s| s.count_ones()).unwrap()
 }
 
 // Lies

@@ -76,10 +76,36 @@ pub enum Mistake {
     CellIsZero,
     /// An unresolved root becomes 0.
     RootIsZero,
+    /// An empty list of sets does not hold the empty set.
+    NoPlaceInEmptyList,
+    /// An empty list has the place of the set 00, if that is listed.
+    PlaceOfEmptySet,
+    /// Every place is 0.
+    PlaceZero,
+    /// Places count from 1; that of an empty list is 0.
+    PlaceFromOne,
+    /// The last set that holds a list is named.
+    LastPlace,
+    /// A set that equals a list is named before one that holds it.
+    PlaceOfEqual,
+    /// The largest set that holds a list is named.
+    PlaceOfLargest,
+    /// The first set that has a board of a list is named.
+    PlaceOfAnyBoard,
+    /// Repeated sets are not counted.
+    PlaceWithoutRepeats,
+    /// Places are those of the sets in rising order.
+    PlaceAmongSorted,
+    /// A list that is not empty has the place of F.
+    PlaceOfFaulty,
+    /// A list that is not empty has the place of the first board's that keeps cells.
+    PlaceOfFirstBoard,
+    /// A healthy dealer's line has the place of F.
+    DealerPlace,
 }
 
 impl Mistake {
-    pub const ALL: [Mistake; 37] = [
+    pub const ALL: [Mistake; 50] = [
         Mistake::CachedValue,
         Mistake::CachedVerdict,
         Mistake::GWithoutList,
@@ -117,6 +143,19 @@ impl Mistake {
         Mistake::BeyondIsZero,
         Mistake::CellIsZero,
         Mistake::RootIsZero,
+        Mistake::NoPlaceInEmptyList,
+        Mistake::PlaceOfEmptySet,
+        Mistake::PlaceZero,
+        Mistake::PlaceFromOne,
+        Mistake::LastPlace,
+        Mistake::PlaceOfEqual,
+        Mistake::PlaceOfLargest,
+        Mistake::PlaceOfAnyBoard,
+        Mistake::PlaceWithoutRepeats,
+        Mistake::PlaceAmongSorted,
+        Mistake::PlaceOfFaulty,
+        Mistake::PlaceOfFirstBoard,
+        Mistake::DealerPlace,
     ];
 
     /// Mistakes that no sheet can show: with `RawStored` cells differ, what is printed does not; `CellIsZero` is about

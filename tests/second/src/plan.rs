@@ -1,6 +1,7 @@
 //! Structures, plans and the tree of labels.
 
 use crate::mistake::Mistake;
+use std::collections::BTreeSet;
 
 /// A node's boards from the dealer on. The empty label stands above the root.
 pub type Label = Vec<u8>;
@@ -14,6 +15,10 @@ pub fn has(set: Set, board: u8) -> bool {
 
 pub fn set_of(boards: impl IntoIterator<Item = u8>) -> Set {
     boards.into_iter().fold(0, |set, b| set | 1 << b)
+}
+
+pub fn within(set: Set, other: Set) -> bool {
+    set & !other == 0
 }
 
 /// All boards below n.
@@ -67,8 +72,56 @@ impl Plan {
         byte.filter(|b| *b < self.span).unwrap_or(default)
     }
 
+    /// The place of the first listed set that holds this one, if one does. The empty set is held at place 0, also by an
+    /// empty list.
+    pub fn place(&self, set: Set) -> Option<usize> {
+        if set == 0 {
+            return Some(0);
+        }
+        self.first(|listed| within(set, listed))
+    }
+
+    /// A set is tolerated if it has a place.
     pub fn tolerated(&self, set: Set) -> bool {
-        set == 0 || self.sets.iter().any(|s| set & !s == 0)
+        self.place(set).is_some()
+    }
+
+    /// The place of the first listed set that fits.
+    fn first(&self, fits: impl Fn(Set) -> bool) -> Option<usize> {
+        self.sets.iter().position(|s| fits(*s))
+    }
+
+    /// The place with the mistake, if it is one about this. Only two of them touch that of the empty set.
+    pub fn place_with(&self, set: Set, mistake: Option<Mistake>) -> Option<usize> {
+        let right = self.place(set)?;
+        let wrong = match mistake {
+            Some(Mistake::NoPlaceInEmptyList) if self.sets.is_empty() => return None,
+            Some(Mistake::PlaceOfEmptySet) if set == 0 => self.first(|s| s == 0),
+            Some(mistake) if set != 0 => self.wrong_place(set, right, mistake),
+            _ => None,
+        };
+        wrong.or(Some(right))
+    }
+
+    /// What a mistake takes for the place of a set that is not empty.
+    fn wrong_place(&self, set: Set, right: usize, mistake: Mistake) -> Option<usize> {
+        let holds = |place: &usize| within(set, self.sets[*place]);
+        let mut falling = (0..self.sets.len()).rev().filter(holds);
+        match mistake {
+            Mistake::PlaceZero => Some(0),
+            Mistake::PlaceFromOne => Some(right + 1),
+            Mistake::LastPlace => falling.next(),
+            Mistake::PlaceOfEqual => self.first(|s| s == set),
+            Mistake::PlaceOfLargest => falling.max_by_key(|place| self.sets[*place].count_ones()),
+            Mistake::PlaceOfAnyBoard => self.first(|s| s & set != 0),
+            Mistake::PlaceWithoutRepeats => Some(BTreeSet::from_iter(&self.sets[..right]).len()),
+            Mistake::PlaceAmongSorted => {
+                let mut sorted = self.clone();
+                sorted.sets.sort();
+                sorted.place(set)
+            }
+            _ => None,
+        }
     }
 
     /// H: the levels of the whole tree.

@@ -1,6 +1,7 @@
 //! A whole session, all boards in step.
 
 use crate::keeper::Keeper;
+use crate::line::Line;
 use crate::mistake::Mistake;
 use crate::plan::{has, Label, Plan, Set, Tree};
 use crate::sheet::{Sheet, Slot};
@@ -29,8 +30,8 @@ impl Adversary for &BTreeMap<Slot, Vec<u8>> {
 pub struct Outcome {
     pub plan: Plan,
     pub faulty: Set,
-    /// Board, decision and list of each healthy board.
-    pub decided: Vec<(u8, u8, Set)>,
+    /// What is printed for each healthy board.
+    pub lines: Vec<Line>,
     /// The roots of all healthy keepers after each run.
     pub roots: Vec<Vec<u8>>,
     /// Their lists after each run.
@@ -41,8 +42,7 @@ pub struct Outcome {
 
 impl Outcome {
     pub fn print(&self) -> String {
-        let line = |(b, v, l): &(u8, u8, Set)| format!("{b:02X}{v:02X}{l:02X}\n");
-        self.decided.iter().map(line).collect()
+        self.lines.iter().map(Line::print).collect()
     }
 
     /// Whether a default other than 0 was decided, and nobody told it: the dealer is faulty, no faulty frame has it.
@@ -51,7 +51,7 @@ impl Outcome {
         default != 0
             && has(self.faulty, self.plan.dealer)
             && !self.told.contains(&default)
-            && self.decided.iter().any(|(_, v, _)| *v == default)
+            && self.lines.iter().any(|line| line.decision == default)
     }
 
     /// Whether the roots differ after a run, counted from 1.
@@ -63,7 +63,10 @@ impl Outcome {
     /// Whether roots can be unequal after a run: the tree is cut, the dealer is faulty, t (b - 3) + 3 boards are,
     /// and two boards that keep cells are not.
     pub fn can_be_unequal_after(&self, run: usize) -> bool {
-        let keepers = self.decided.iter().filter(|(b, ..)| *b != self.plan.dealer);
+        let keepers = self
+            .lines
+            .iter()
+            .filter(|line| line.board != self.plan.dealer);
         self.plan.cut()
             && has(self.faulty, self.plan.dealer)
             && self.faulty.count_ones() as usize >= run * (self.plan.depth as usize - 3) + 3
@@ -111,17 +114,42 @@ pub fn play(
             break;
         }
     }
-    let decide = |b: &u8| match keepers.get(b) {
-        Some(k) => (*b, k.value(&tree, &[plan.dealer]), k.list),
-        None => (*b, value, 0),
+    let line = |board: &u8| {
+        let (decision, list) = match keepers.get(board) {
+            Some(k) => (k.value(&tree, &[plan.dealer]), k.list),
+            None => (value, 0),
+        };
+        let explained = explained(*board, list, faulty, &keepers, mistake);
+        Line {
+            board: *board,
+            decision,
+            list,
+            place: plan.place_with(explained, mistake),
+        }
     };
     Outcome {
         plan: plan.clone(),
         faulty,
-        decided: healthy.iter().map(decide).collect(),
+        lines: healthy.iter().map(line).collect(),
         roots,
         lists,
         told,
+    }
+}
+
+/// The set whose place a board's line has: its list, but for a mistake. Only the dealer keeps no cells.
+fn explained(
+    board: u8,
+    list: Set,
+    faulty: Set,
+    keepers: &Keepers,
+    mistake: Option<Mistake>,
+) -> Set {
+    match mistake {
+        Some(Mistake::DealerPlace) if !keepers.contains_key(&board) => faulty,
+        Some(Mistake::PlaceOfFaulty) if list != 0 => faulty,
+        Some(Mistake::PlaceOfFirstBoard) if list != 0 => keepers.values().next().unwrap().list,
+        _ => list,
     }
 }
 

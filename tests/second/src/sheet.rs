@@ -111,7 +111,7 @@ fn head(bytes: &[u8], mistake: Option<Mistake>) -> Result<Sheet, u8> {
     if let Some(number) = plan.refusal_with(mistake) {
         return Err(number);
     }
-    let untolerated = faulty & !all(n) != 0 || !plan.tolerated(faulty);
+    let untolerated = faulty & !all(n) != 0 || plan.place_with(faulty, mistake).is_none();
     if untolerated && mistake == Some(Mistake::FaultyBeforeValue) {
         return Err(23);
     }

@@ -1,5 +1,6 @@
 //! Counts of what the sheets reached.
 
+use crate::places::{all_placed, KINDS};
 use crate::session::Outcome;
 use crate::sheet::Refusal;
 use std::collections::BTreeMap;
@@ -21,6 +22,9 @@ pub struct Tally {
     pub shown: usize,
     /// Accepted sheets with no sets, by their boards.
     no_sets: BTreeMap<u8, usize>,
+    /// Accepted sheets that show each kind of place, and those with a list that has none.
+    pub places: BTreeMap<&'static str, usize>,
+    pub unplaced: usize,
     refused: BTreeMap<u8, usize>,
     split: BTreeMap<(u8, u8, usize), usize>,
 }
@@ -38,6 +42,10 @@ impl Tally {
         self.accepted += 1;
         self.defaults += usize::from(outcome.plan.default != 0);
         self.shown += usize::from(outcome.default_shows());
+        self.unplaced += usize::from(!all_placed(outcome));
+        for (kind, _) in KINDS.iter().filter(|(_, shows)| shows(outcome)) {
+            *self.places.entry(kind).or_default() += 1;
+        }
         if outcome.plan.sets.is_empty() {
             *self.no_sets.entry(outcome.plan.n).or_default() += 1;
         }
@@ -56,19 +64,24 @@ impl Tally {
         self.impossible += other.impossible;
         self.defaults += other.defaults;
         self.shown += other.shown;
+        self.unplaced += other.unplaced;
         join(&mut self.no_sets, other.no_sets);
+        join(&mut self.places, other.places);
         join(&mut self.refused, other.refused);
         join(&mut self.split, other.split);
     }
 
-    /// Whether every number, every kind of unequal roots, an accepted sheet with no sets and one that decides a default
-    /// other than 0 which nobody told were met, and no other number and no impossible roots.
+    /// Whether every number, every kind of unequal roots and of place, an accepted sheet with no sets and one that
+    /// decides a default other than 0 which nobody told were met, and no other number, no impossible roots and no list
+    /// without a place.
     pub fn full(&self) -> bool {
         self.refused.keys().eq(&NUMBERS)
             && SPLITS.iter().all(|s| self.split.contains_key(s))
+            && KINDS.iter().all(|(kind, _)| self.places.contains_key(kind))
             && !self.no_sets.is_empty()
             && self.shown > 0
             && self.impossible == 0
+            && self.unplaced == 0
     }
 
     pub fn print(&self) {
@@ -86,6 +99,11 @@ impl Tally {
             println!("unequal roots, b = {b}, n = {n}, after run {run}: {count}");
         }
         println!("unequal roots where none are possible: {}", self.impossible);
+        for (kind, _) in KINDS {
+            let count = self.places.get(kind).copied().unwrap_or(0);
+            println!("place {kind}: {count}");
+        }
+        println!("lists without a place: {}", self.unplaced);
     }
 }
 

@@ -1,11 +1,12 @@
 //! The corpus shows what it is kept for, and made sheets keep the promises.
 
-use second::plan::{has, set_of};
+use second::places::KINDS;
+use second::plan::{has, set_of, within};
 use second::sheet::Refusal;
 use second::shrink::shrink;
 use second::tally::{Tally, NUMBERS, SPLITS};
 use second::{bench, bench_with, corpus, make, play, print, session, sheet};
-use second::{Mistake, Outcome, Sheet};
+use second::{Line, Mistake, Outcome, Sheet};
 use std::collections::BTreeSet;
 
 #[test]
@@ -91,12 +92,23 @@ fn corpus_meets_all_but_the_longest() {
     };
     let mut all = tally(&|_, _| true);
     assert!(all.full(), "numbers {NUMBERS:?}, splits {SPLITS:?}");
-    for without in ["refusal-03", "refusal-26", "unequal-b5-n7", "empty-list"] {
+    for without in ["refusal-03", "refusal-26", "unequal-b5-n7"] {
         let some = tally(&|name, _| !name.starts_with(without));
         assert!(!some.full(), "{without}");
     }
+    let listed = tally(&|_, result| !result.as_ref().is_ok_and(|o| o.plan.sets.is_empty()));
+    assert!(!listed.full(), "no sets");
     let hidden = tally(&|_, result| !result.as_ref().is_ok_and(|o| o.default_shows()));
     assert!(!hidden.full(), "a default that shows");
+    for (kind, shows) in KINDS {
+        let some = tally(&|_, result| !result.as_ref().is_ok_and(shows));
+        assert!(!some.full(), "a place {kind}");
+    }
+    let mut unplaced = play(b"0410000000050000\n", None);
+    unplaced.as_mut().unwrap().lines[3].place = None;
+    let mut some = tally(&|_, _| true);
+    some.count(&unplaced);
+    assert!(!some.full(), "a list without a place");
     all.count(&Err(Refusal { number: 2, line: 1 }));
     assert!(!all.full(), "number 2 is free");
 }
@@ -109,15 +121,27 @@ fn made_sheets_agree_and_list_only_faulty_boards() {
             continue;
         };
         let faulty = sheet::read(&text).unwrap().faulty;
-        let first = outcome.decided[0].1;
-        for (board, decision, list) in &outcome.decided {
-            assert!(!has(faulty, *board) && list & !faulty == 0, "seed {seed}");
-            assert_eq!(*decision, first, "seed {seed}");
+        let first = outcome.lines[0].decision;
+        for line in &outcome.lines {
+            assert!(!has(faulty, line.board), "seed {seed}");
+            assert!(within(line.list, faulty), "seed {seed}");
+            assert_eq!(line.decision, first, "seed {seed}");
+            held_first(&outcome, line, seed);
         }
         detected_while_unequal(&outcome, seed);
         let hidden = Mistake::ALL.into_iter().filter(|m| m.hidden());
         hidden.for_each(|m| assert_eq!(bench_with(&text, m), print(&play(&text, None))));
     }
+}
+
+/// The set at the list's place holds it and no earlier one does; with no sets the place is 0. A dealer's place is 0.
+fn held_first(outcome: &Outcome, line: &Line, seed: u64) {
+    let place = line.place.expect("a place");
+    let holds = |set: &u8| within(line.list, *set);
+    let (before, after) = outcome.plan.sets.split_at(place);
+    assert!(!before.iter().any(holds), "seed {seed}");
+    assert!(after.first().map_or(line.list == 0, holds), "seed {seed}");
+    assert!(line.board != outcome.plan.dealer || place == 0);
 }
 
 /// With no sets a sheet prints what it prints with the one set 00. Made ones meet every number that such a sheet can meet
@@ -150,10 +174,16 @@ fn made_sheets_with_no_sets() {
 
 /// F is empty, there is one round, and every board decides the dealer's value.
 fn decided_at_once(sheet: &Sheet, outcome: &Outcome, seed: u64) {
-    let decided: Vec<_> = (0..sheet.plan.n).map(|b| (b, sheet.value, 0)).collect();
+    let line = |board| Line {
+        board,
+        decision: sheet.value,
+        list: 0,
+        place: Some(0),
+    };
+    let lines: Vec<Line> = (0..sheet.plan.n).map(line).collect();
     assert_eq!((sheet.faulty, sheet.frames.len()), (0, 0), "seed {seed}");
     assert_eq!((sheet.plan.runs(), sheet.plan.rounds()), (1, 1));
-    assert_eq!(outcome.decided, decided, "seed {seed}");
+    assert_eq!(outcome.lines, lines, "seed {seed}");
 }
 
 /// Made sheets meet 7 where 26 applies too, 26 where 8 does, and 26 by a default of m. Accepted ones have the default
@@ -203,9 +233,9 @@ fn swapped_with_zero(sheet: &Sheet, outcome: &Outcome, seed: u64) {
     (other.plan.default, other.value) = (0, swap(sheet.value));
     let values = other.frames.values_mut().flatten();
     values.for_each(|v| *v = swap(*v));
-    let mut decided = session::play_sheet(&other, None).decided;
-    decided.iter_mut().for_each(|(_, v, _)| *v = swap(*v));
-    assert_eq!(decided, outcome.decided, "seed {seed}");
+    let mut lines = session::play_sheet(&other, None).lines;
+    lines.iter_mut().for_each(|l| l.decision = swap(l.decision));
+    assert_eq!(lines, outcome.lines, "seed {seed}");
 }
 
 /// A default shows if it is not 0, the dealer is faulty, it is decided, and no faulty board told it.
@@ -226,7 +256,7 @@ fn shown_defaults_are_counted() {
     assert_eq!(shown(&|o| o.plan.default = 6), (1, 0));
     let zero = |o: &mut Outcome| {
         o.plan.default = 0;
-        o.decided.iter_mut().for_each(|(_, v, _)| *v = 0);
+        o.lines.iter_mut().for_each(|l| l.decision = 0);
     };
     assert_eq!(shown(&zero), (0, 0));
 }
