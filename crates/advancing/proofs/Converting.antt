@@ -10,6 +10,7 @@ use Rattle.schedule.specs.declared.rounds.Run.{Run}
 use Rattle.schedule.specs.declared.rounds.Round.{Round}
 use Rattle.tree.specs.Places.{cellCount}
 use Rattle.tree.specs.Cells.{blank}
+use Rattle.protocol.specs.declared.records.Slot.{Slot}
 use Rattle.protocol.specs.Detection.{resolveRoot}
 use Rattle.protocol.specs.Rounds.{rootOnly}
 use Rattle.resolving.specs.Contracts.{Convertible}
@@ -36,7 +37,7 @@ convertible {p} s most room = record {
 }
 
 -- Surplus cells are left as they were.
-pub root-kept : (p : Plan) (i : ℕ) (run : Run) (round : Round) (list root found : ℕ) (before after : List ℕ) → p .dealer < p .n
+pub root-kept : (p : Plan) (i : ℕ) (run : Run) (round : Round) (list : List Slot) (root : ℕ) (found : List Slot) (before after : List ℕ) → p .dealer < p .n
     → Converts p i run round list root found before after
     → rootOnly (p .n) root after ≡ rootOnly (p .n) (resolveRoot p i before) before
 unfolding rootOnly

@@ -3,6 +3,7 @@ use clearing::cells::keep_root;
 use codec::value::Value;
 use conversion::converting::convert_cells;
 use protocol::records::Record;
+use protocol::records::Slot;
 use schedule::rounds::Round;
 use schedule::rounds::Run;
 use schedule::rounds::runs;
@@ -14,7 +15,7 @@ ghost use Rattle.protocol.specs.Calls.{goodRecord};
 ghost use Rattle.advancing.specs.Ends.{GoesOn, Ends};
 
 // The next round of the same run.
-pub fn next_round(r: Record, list: u8) -> Record
+pub fn next_round(r: Record, list: [Slot; 7]) -> Record
     requires { ⌜ GoesOn r ⌝ }
     ensures { λ x. ⌜ x ≡ advanced r list ⌝ }
 {
@@ -30,7 +31,7 @@ pub fn next_round(r: Record, list: u8) -> Record
 }
 
 // The next run, or the decision.
-fn next_run(r: Record, list: u8, root: u8) -> Record
+fn next_run(r: Record, list: [Slot; 7], root: u8) -> Record
     requires { ⌜ goodRecord r ≡ true ⌝ }
     ensures { λ x. ⌜ x ≡ runEnded r list root ⌝ }
 {
@@ -55,7 +56,7 @@ fn next_run(r: Record, list: u8, root: u8) -> Record
 }
 
 // Closing the last round of a run: the root, rule C, the cells, and the record.
-pub fn convert_round(r: Record, holders: &[u8], list: u8, cells: &mut [Value]) -> Record
+pub fn convert_round(r: Record, holders: &[u8], list: [Slot; 7], cells: &mut [Value]) -> Record
     requires { ⌜ Ends r (now holders) (now cells) ⌝ }
     ensures { λ x. ⌜ boardWith x (now (cells .exit)) ≡ convert (boardWith r (now (cells .entry))) (record { list = list; cells = now (cells .entry) }) ⌝ }
 {

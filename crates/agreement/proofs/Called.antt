@@ -1,25 +1,38 @@
--- A board that was begun, after any calls, fair or not: its record is good, and a place with no value yet, or no node, holds FF.
+-- After any calls, fair or not: what every call keeps holds then. A board that was begun has a good record, and a place with no value yet, or no
+-- node, holds FF.
 -- Assumes nothing.
 use Prim.Native.Nat.{ℕ}
-use mathlib.Core.List.{List, [], _∷_}
+use mathlib.Core.Path.{_≡_, refl}
+use mathlib.Core.List.{List, [], _∷_, _++_}
 use lib.Dec.{eqb}
 use Rattle.codec.specs.Codec.{decode}
 use Rattle.sets.proofs.Tests.{cases}
 use Rattle.protocol.specs.Rounds.{Board}
 use Rattle.protocol.specs.Calls.{receiving}
 use Rattle.synchronous.proofs.Reached.{Reached, reached-taking, reached-closing}
-use Rattle.agreement.specs.Lists.{Call, receives, sends, closes, decides, leaves, caller, afterOne, after}
+use Rattle.agreement.specs.Lists.{Call, receives, sends, closes, decides, leaves, caller, World, afterOne, after}
 
-pub reached-after : (calls : List Call) (w : ℕ → Board) (i : ℕ) → Reached (w i) → Reached (after w calls i)
+pub after-append : (w : World) (before rest : List Call) → after w (before ++ rest) ≡ after (after w before) rest
 unfolding after
-reached-after [] w i h = h
-reached-after (c ∷ calls) w i h = reached-after calls (afterOne w c) i (one c)
-  where
-    done : (c : Call) → Reached (leaves c (w i))
-    done (receives j q f) = unfold leaves receiving in reached-taking (w i) q (decode f) h
-    done (sends j out) = unfold leaves in h
-    done (closes j) = unfold leaves in reached-closing (w i) h
-    done (decides j) = unfold leaves in h
+after-append w [] rest = refl
+after-append w (c ∷ before) rest = after-append (afterOne w c) before rest
 
-    one : (c : Call) → Reached (afterOne w c i)
-    one c = unfold afterOne in cases (eqb i (caller c)) (λ e. rw e (done c)) (λ e. rw e h)
+module _ (P : Board → Type 0) (keeps : (c : Call) (b : Board) → P b → P (leaves c b)) where
+  pub one-keeps : (w : World) (c : Call) (i : ℕ) → P (w i) → P (afterOne w c i)
+  unfolding afterOne
+  one-keeps w c i h = cases (eqb i (caller c)) (λ e. rw e (keeps c (w i) h)) (λ e. rw e h)
+
+  pub after-keeps : (calls : List Call) (w : World) (i : ℕ) → P (w i) → P (after w calls i)
+  unfolding after
+  after-keeps [] w i h = h
+  after-keeps (c ∷ calls) w i h = after-keeps calls (afterOne w c) i (one-keeps w c i h)
+
+pub reached-leaves : (c : Call) (b : Board) → Reached b → Reached (leaves c b)
+unfolding leaves receiving
+reached-leaves (receives j q f) b h = reached-taking b q (decode f) h
+reached-leaves (sends j out) b h = h
+reached-leaves (closes j) b h = reached-closing b h
+reached-leaves (decides j) b h = h
+
+pub reached-after : (calls : List Call) (w : World) (i : ℕ) → Reached (w i) → Reached (after w calls i)
+reached-after = after-keeps Reached reached-leaves

@@ -1,6 +1,6 @@
 -- One step of the session: what healthy boards hear of one another, and that none of them is listed by rule G.
 -- Assumes nothing.
-use Prim.Native.Nat.{ℕ, suc, _-_, _<_}
+use Prim.Native.Nat.{ℕ, suc, _-_, _≤_, _<_}
 use mathlib.Core.Path.{_≡_, refl, sym, _∙_, ap, subst}
 use mathlib.Core.Logic.{_≢_}
 use mathlib.Core.Bool.{true, false, not, _&&_}
@@ -11,7 +11,6 @@ use lib.Dec.{eqb, ltb}
 use lib.ListN.{length}
 use borrow.Author.Tests.{eqb-true, eqb-false, eq-eqb, ne-eqb, lt-ltb}
 use Rattle.sets.specs.Sets.{member}
-use Rattle.sets.specs.Structure.{tolerated}
 use Rattle.sets.proofs.Tests.{cases, and-true, true-not}
 use Rattle.plan.specs.declared.plan.Plan.{Plan}
 use Rattle.plan.specs.Values.{value}
@@ -19,6 +18,7 @@ use Rattle.schedule.specs.declared.rounds.Round.{Round}
 use Rattle.schedule.specs.Schedule.{steps, stepRun, stepRound}
 use Rattle.tree.specs.Labels.{Label, occurs}
 use Rattle.theory.specs.Tree as T
+use Rattle.protocol.specs.Listing.{asSet}
 use Rattle.protocol.specs.Nodes.{read, nodes, inner, sent, due, frame}
 use Rattle.protocol.specs.Detection.{Scan, detectAllG}
 use Rattle.protocol.specs.Calls.{frameOf}
@@ -27,12 +27,12 @@ use Rattle.protocol.specs.declared.records.Record.{Record}
 use Rattle.protocol.proofs.Nodes.{sent-same, sent-has, inner-inv, node-label}
 use Rattle.protocol.proofs.Fill.{IsLabel}
 use Rattle.synchronous.proofs.Local.{detect-outside}
-use Rattle.protocol.proofs.Judgement.{plan-default, Good, good-dealer}
+use Rattle.protocol.proofs.Judgement.{plan-facts, plan-default, Good, good-dealer}
 use Rattle.protocol.proofs.Bounds.{read-small}
 use Rattle.synchronous.proofs.Reached.{other-level}
 use Rattle.synchronous.proofs.Hearing.{filled, filled-outside, delivered, copied}
 use Rattle.synchronous.proofs.Synchronous.{told, keeper-facts, Standing, standing, canon}
-use Rattle.agreement.proofs.Instance.{inst, inst-good, listOf}
+use Rattle.agreement.proofs.Instance.{inst, inst-good, boardsOf}
 use Rattle.agreement.proofs.Healthy.{tolerated-below, is-keeper}
 
 module _ (s : Setting) (a : Adversary) (sound : Sound s) where
@@ -42,13 +42,16 @@ module _ (s : Setting) (a : Adversary) (sound : Sound s) where
   abbrev F : ℕ
   F = s .faulty
 
-  pub good : T.Good (inst plan) (listOf F)
+  pub most-boards : plan .n ≤ 7
+  most-boards = plan-facts plan (sound .accepted) .admission .most-boards
+
+  pub good : T.Good (inst plan) (boardsOf F)
   good = inst-good plan F (sound .accepted) (tolerated-below plan (sound .accepted) F (sound .tolerable)) (sound .tolerable)
 
-  pub healthy : (i : ℕ) → keeper s i ≡ true → T.Healthy (inst plan) (listOf F) i
+  pub healthy : (i : ℕ) → keeper s i ≡ true → T.Healthy (inst plan) (boardsOf F) i
   healthy i k = let (l, f, ne) = keeper-facts s a sound i k in record { below = l; correct = f; keeper = ne }
 
-  pub healthy-keeper : (i : ℕ) → T.Healthy (inst plan) (listOf F) i → keeper s i ≡ true
+  pub healthy-keeper : (i : ℕ) → T.Healthy (inst plan) (boardsOf F) i → keeper s i ≡ true
   healthy-keeper i H = is-keeper s i (H .below) (H .correct) (H .keeper)
 
   -- What a healthy board that keeps cells sends is heard as it is.
@@ -105,7 +108,7 @@ module _ (s : Setting) (a : Adversary) (sound : Sound s) where
     scanned = detectAllG plan i (stepRun plan (suc j)) (stepRound plan (suc j)) (inner plan i (stepRound plan (suc j) .0 - 1)) (record { list = at s a j i .rec .list; cells = stored-cells })
 
     -- What board i has of a healthy board q, or of itself, is that board's cell.
-    pub stored-healthy : (q e : ℕ) (α : Label) → keeper s q ≡ true → member q (at s a j i .rec .list) ≡ false → stepRound plan (suc j) .0 ≡ suc (suc e)
+    pub stored-healthy : (q e : ℕ) (α : Label) → keeper s q ≡ true → member q (asSet (at s a j i .rec .list)) ≡ false → stepRound plan (suc j) .0 ≡ suc (suc e)
         → List·Memᴰ α (inner plan i (suc e)) → occurs q α ≡ false → read plan stored-cells (q ∷ α) ≡ read plan (at s a j q .cells) α
     stored-healthy q e α kq out ek m a-out =
         let (lq, fq, nq) = keeper-facts s a sound q kq in

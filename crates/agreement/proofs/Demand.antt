@@ -30,6 +30,8 @@ use Rattle.schedule.specs.Schedule as S
 use Rattle.schedule.proofs.Steps.{step-has, step-of-round}
 use Rattle.tree.specs.Cells.{blank}
 use Rattle.protocol.specs.declared.records.Record.{Record}
+use Rattle.protocol.specs.declared.records.Slot.{Slot}
+use Rattle.protocol.specs.Listing.{asSet}
 use Rattle.protocol.specs.Rounds.{Board}
 use Rattle.protocol.specs.Calls.{judgeOpen, judgeRecord, judgeBoard, judgeBeginning, deciding}
 use Rattle.protocol.specs.Session.{Adversary, Setting, begun, at, keeper, Sound}
@@ -56,16 +58,16 @@ deciding-facts r v e =
     (d, ap (λ (o : Outcome). getD (o .values) 0 0) (sym (ap (λ b. cond b (taken (r .decision ∷ [])) (refused 19)) d) ∙ whole))
 
 -- Who stands on all lists stands on all longer ones.
-every-mono : (s : Setting) (lists more : ℕ → ℕ) (r : ℕ)
-    → ((i : ℕ) → keeper s i ≡ true → member r (lists i) ≡ true → member r (more i) ≡ true)
+every-mono : (s : Setting) (lists more : ℕ → List Slot) (r : ℕ)
+    → ((i : ℕ) → keeper s i ≡ true → member r (asSet (lists i)) ≡ true → member r (asSet (more i)) ≡ true)
     → onEvery s lists r ≡ true → onEvery s more r ≡ true
 unfolding onEvery
 every-mono s lists more r f all =
     true-not _ (is-false _ (λ y.
-    let (i, l, x) = any-true (λ i. keeper s i && not (member r (more i))) (s .plan .n) y in
+    let (i, l, x) = any-true (λ i. keeper s i && not (member r (asSet (more i)))) (s .plan .n) y in
     let ki = and-l (keeper s i) _ x in
-    let off : member r (lists i) ≡ false = is-false _ (λ on. clash (f i ki on) (not-t _ (and-r (keeper s i) _ x))) in
-    clash (any-of (λ i. keeper s i && not (member r (lists i))) (s .plan .n) i l (and-true _ _ ki (true-not _ off))) (not-t _ all)))
+    let off : member r (asSet (lists i)) ≡ false = is-false _ (λ on. clash (f i ki on) (not-t _ (and-r (keeper s i) _ x))) in
+    clash (any-of (λ i. keeper s i && not (member r (asSet (lists i)))) (s .plan .n) i l (and-true _ _ ki (true-not _ off))) (not-t _ all)))
 
 module _ (s : Setting) (calls : List Call) (sound : Sound s) (fair : Fair s calls) where
   abbrev plan : Plan
@@ -110,7 +112,7 @@ module _ (s : Setting) (calls : List Call) (sound : Sound s) (fair : Fair s call
 
   -- Lists only grow.
   grow : (i : ℕ) (before now : List Call) → keeper s i ≡ true → Prefix before now → Prefix now calls
-      → within (listAfter s before i) (listAfter s now i) ≡ true
+      → within (asSet (listAfter s before i)) (asSet (listAfter s now i)) ≡ true
   unfolding listAfter
   grow i before now ki p q =
       let early = prefix-trans before now calls p q in
@@ -118,11 +120,11 @@ module _ (s : Setting) (calls : List Call) (sound : Sound s) (fair : Fair s call
       let c = closings (begun s) i now in
       let le : j ≤ c = closings-mono s i before now p in
       let z : j + (c - j) ≡ c = omega arith in
-      member-within (state s before i .rec .plan .n) (listAfter s before i) (listAfter s now i) (rec-good before early i ki .list-below)
-      (λ r _ on. subst (λ x. member r x ≡ true) (sym (here now q i ki .list))
-      (subst (λ x. member r (at s faulty x i .rec .list) ≡ true) z
+      member-within (state s before i .rec .plan .n) (asSet (listAfter s before i)) (asSet (listAfter s now i)) (rec-good before early i ki .list-good .below)
+      (λ r _ on. subst (λ x. member r (asSet x) ≡ true) (sym (here now q i ki .list))
+      (subst (λ x. member r (asSet (at s faulty x i .rec .list)) ≡ true) z
       (lists-grow s faulty sound i ki (c - j) j (omega (arith, here now q i ki .most)) r
-      (subst (λ x. member r x ≡ true) (here before early i ki .list) on))))
+      (subst (λ x. member r (asSet x) ≡ true) (here before early i ki .list) on))))
 
   -- A decision that was read is that of the session.
   read-is : (i : ℕ) (before : List Call) (v : ℕ) → Stands (decides i) before calls → answers (decides i) (state s before i) ≡ taken (v ∷ [])
@@ -190,10 +192,10 @@ module _ (s : Setting) (calls : List Call) (sound : Sound s) (fair : Fair s call
   unfolding onEvery
   every t before e r =
       ap not (any-same
-      (λ i. keeper s i && not (member r (listEnded s faulty t i)))
-      (λ i. keeper s i && not (member r (list s i (before i)))) (plan .n)
+      (λ i. keeper s i && not (member r (asSet (listEnded s faulty t i))))
+      (λ i. keeper s i && not (member r (asSet (list s i (before i))))) (plan .n)
       (λ i _. cases (keeper s i)
-      (λ k. ap (λ l. keeper s i && not (member r l)) (sym (list-is t i (before i) k (e i k))))
+      (λ k. ap (λ l. keeper s i && not (member r (asSet l))) (sym (list-is t i (before i) k (e i k))))
       (λ k. rw k refl)))
 
   bounded : isCut plan ≡ true → (t : ℕ) (before : ℕ → List Call) → ((i : ℕ) → keeper s i ≡ true → EndsRun s t i (before i) calls)
@@ -216,11 +218,11 @@ module _ (s : Setting) (calls : List Call) (sound : Sound s) (fair : Fair s call
       → (i k : ℕ) → keeper s i ≡ true → keeper s k ≡ true → root s i (before i) ≢ root s k (before k)
       → t * (depthOf plan - 3) + 1 ≤ count (onEvery s (listAfter s calls)) (plan .n)
   bounded-now cut t before e i k ki kk ne =
-      let then : ℕ → ℕ = λ i. list s i (before i) in
+      let then : ℕ → List Slot = λ i. list s i (before i) in
       let more = count-mono (onEvery s then) (onEvery s (listAfter s calls)) (plan .n) (λ r _. every-mono s then (listAfter s calls) r
-      (λ m km on. within-member (listAfter s (before m ++ (closes m ∷ [])) m) (listAfter s calls m)
+      (λ m km on. within-member (asSet (listAfter s (before m ++ (closes m ∷ [])) m)) (asSet (listAfter s calls m))
       (grow m (before m ++ (closes m ∷ [])) calls km (stands-next (closes m) (before m) calls (e m km .stands)) (prefix-refl calls)) r
-      (subst (λ x. member r x ≡ true) (list-left m (before m)) on))) in
+      (subst (λ x. member r (asSet x) ≡ true) (list-left m (before m)) on))) in
       let h = bounded cut t before e i k ki kk ne in
       omega arith
 
@@ -229,9 +231,9 @@ module _ (s : Setting) (calls : List Call) (sound : Sound s) (fair : Fair s call
   now i ki = here calls (prefix-refl calls) i ki
 
   -- Every list of a board outside F lies within F.
-  within-faulty : (i : ℕ) → keeper s i ≡ true → within (listAfter s calls i) (s .faulty) ≡ true
+  within-faulty : (i : ℕ) → keeper s i ≡ true → within (asSet (listAfter s calls i)) (s .faulty) ≡ true
   unfolding listAfter
-  within-faulty i ki = subst (λ x. within x (s .faulty) ≡ true) (sym (now i ki .list)) (agreed .sound (closings (begun s) i calls) i (now i ki .most) ki)
+  within-faulty i ki = subst (λ x. within (asSet x) (s .faulty) ≡ true) (sym (now i ki .list)) (agreed .sound (closings (begun s) i calls) i (now i ki .most) ki)
 
   -- So it has a place.
   healthy-within : (i : ℕ) → i < plan .n → member i (s .faulty) ≡ false → within (healthyList s calls i) (s .faulty) ≡ true

@@ -33,12 +33,16 @@ use Rattle.sets.specs.Tabulate.{tabulate}
 use Rattle.sets.proofs.Tabulated.{tabulate-at}
 use Rattle.protocol.specs.Detection.{vote, resolve}
 use Rattle.protocol.proofs.Judgement.{plan-facts, plan-default}
+use Rattle.protocol.specs.declared.records.Slot.{Slot}
 use Rattle.protocol.specs.Listing.{asSet}
 use Rattle.protocol.proofs.Tolerance.{tol, tol-mono, tol-q3, tol-path, setOf-same}
 
--- The list as a test.
-abbrev pub listOf : ℕ → T.Boards
-listOf list = λ r. member r (asSet list)
+-- A set of boards, and a list, as a test.
+abbrev pub boardsOf : ℕ → T.Boards
+boardsOf set = λ r. member r set
+
+abbrev pub listOf : List Slot → T.Boards
+listOf list = boardsOf (asSet list)
 
 -- The plan of the theory.
 abbrev pub inst : Plan → T.Plan

@@ -21,6 +21,7 @@ use Rattle.sets.proofs.Tolerated.{held-some, held-empty}
 use Rattle.plan.specs.Listed.{listed}
 use Rattle.schedule.specs.Schedule.{steps}
 use Rattle.protocol.specs.Limits.{sheetMost, outputNeeded, cellsNeeded}
+use Rattle.protocol.specs.Listing.{asSet}
 use Rattle.protocol.specs.Session.{Setting, Boards, boardAt, at, keeper, Sound}
 use Rattle.sheet.specs.declared.head.Head.{Head}
 use Rattle.sheet.specs.Sheet.{Frame, wrongAt, reading}
@@ -96,7 +97,7 @@ module _ (h : Head) (fs : List Frame) (cells : List ℕ) (agreed : SessionAgreem
 
   -- The lists: the dealer's is empty.
   lists : ℕ → ℕ
-  lists i = cond (eqb i (h .plan .dealer)) 0 (boardAt w i .rec .list)
+  lists i = cond (eqb i (h .plan .dealer)) 0 (asSet (boardAt w i .rec .list))
 
   lists-sound : (i : ℕ) → i < h .plan .n → member i (h .faulty) ≡ false → within (lists i) (h .faulty) ≡ true
   unfolding lists setting finalBoards at
@@ -134,7 +135,7 @@ module _ (h : Head) (fs : List Frame) (cells : List ℕ) (agreed : SessionAgreem
       (λ f. cases (eqb i (h .plan .dealer))
       (λ d. let v : chosen .decision ≡ h .word = chosen .dealers (ap (λ x. member x (h .faulty)) (sym (eqb-true i (h .plan .dealer) d)) ∙ f) in
       rw (f, d, held-empty sets) (ap₂ (λ x y. printed i x 0 0 y) (sym v) ih))
-      (λ d. let list = boardAt w i .rec .list in
+      (λ d. let list = asSet (boardAt w i .rec .list) in
       rw (f, d) (ap₂ (λ x y. printed i x list (heldAt sets list) y) (chosen .keepers i (is-keeper s i (omega arith) f (eqb-false i (h .plan .dealer) d))) ih)))
 
 -- What a played sheet prints obeys demand 3.

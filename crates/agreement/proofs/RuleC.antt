@@ -23,6 +23,8 @@ use Rattle.schedule.specs.Schedule.{rounds}
 use Rattle.tree.specs.Labels.{Label, occurs, last}
 use Rattle.theory.specs.Tree as T
 use Rattle.theory.proofs.Soundness.{spared}
+use Rattle.protocol.specs.declared.records.Slot.{Slot}
+use Rattle.protocol.specs.Listing.{asSet}
 use Rattle.protocol.specs.Nodes.{inner}
 use Rattle.protocol.specs.declared.records.Rule.the-variants as Rule
 use Rattle.protocol.specs.Detection.{resolveRoot, Scan, explained, byResolving, passes, detectC, detectAllC, detectLevels}
@@ -31,96 +33,96 @@ use Rattle.protocol.specs.Rounds.{Board, rootOnly, convert}
 use Rattle.protocol.proofs.Rules.{detectC-joined, detectC-kept}
 use Rattle.protocol.proofs.Tolerance.{tol, tol-mono}
 use Rattle.protocol.proofs.Listing.{join-has, join-keeps, join-inv}
-use Rattle.agreement.proofs.Instance.{inst, listOf}
+use Rattle.agreement.proofs.Instance.{inst, boardsOf, listOf}
 use Rattle.agreement.proofs.RuleG.{explained-inst}
 
 module _ (p : Plan) (i : ℕ) (run : Run) (round : Round) (cells : List ℕ) where
-  detectC-grow : (α : Label) (s r : ℕ) → member r s ≡ true → member r (detectC p i run round cells α s) ≡ true
+  detectC-grow : (α : Label) (s : List Slot) (r : ℕ) → member r (asSet s) ≡ true → member r (asSet (detectC p i run round cells α s)) ≡ true
   detectC-grow α s r h =
-      cases (passes p α (byResolving p i cells α) s) (λ e. rw (detectC-kept p i run round α cells s e) h) (λ e. rw (detectC-joined p i run round α cells s e) (join-keeps run round Rule.C (length α) (last α) s r h))
+      cases (passes p α (byResolving p i cells α) s) (λ e. rw (detectC-kept p i run round α cells s e) h) (λ e. rw (detectC-joined p i run round α cells s e) (join-keeps run round (Rule.C (length α)) (last α) s r h))
 
-  level-grow : (αs : List Label) (s r : ℕ) → member r s ≡ true → member r (detectAllC p i run round cells αs s) ≡ true
+  level-grow : (αs : List Label) (s : List Slot) (r : ℕ) → member r (asSet s) ≡ true → member r (asSet (detectAllC p i run round cells αs s)) ≡ true
   unfolding detectAllC
   level-grow [] s r h = h
   level-grow (α ∷ αs) s r h = level-grow αs (detectC p i run round cells α s) r (detectC-grow α s r h)
 
-  pub levels-grow : (k s r : ℕ) → member r s ≡ true → member r (detectLevels p i run round cells k s) ≡ true
+  pub levels-grow : (k : ℕ) (s : List Slot) (r : ℕ) → member r (asSet s) ≡ true → member r (asSet (detectLevels p i run round cells k s)) ≡ true
   unfolding detectLevels
   levels-grow zero s r h = h
   levels-grow (suc k) s r h = levels-grow k (detectAllC p i run round cells (inner p i (suc k)) s) r (level-grow (inner p i (suc k)) s r h)
 
   -- Some value leaves a tolerated set of children with another, and of listed boards.
-  abbrev pub SparedBy : ℕ → Label → Type 0
-  SparedBy s α = (v : ℕ) × (v < p .span) × (tol p (λ c. T.others α (byResolving p i cells α) v c || member c s) ≡ true)
+  abbrev pub SparedBy : List Slot → Label → Type 0
+  SparedBy s α = (v : ℕ) × (v < p .span) × (tol p (λ c. T.others α (byResolving p i cells α) v c || member c (asSet s)) ≡ true)
 
   -- Spared with a longer list, spared with a shorter one.
-  fewer : (α : Label) (s t : ℕ) → ((r : ℕ) → member r s ≡ true → member r t ≡ true) → SparedBy t α → SparedBy s α
+  fewer : (α : Label) (s t : List Slot) → ((r : ℕ) → member r (asSet s) ≡ true → member r (asSet t) ≡ true) → SparedBy t α → SparedBy s α
   fewer α s t h x =
       let (v, l, e) = x in (
         v,
         l,
-        tol-mono p (λ c. T.others α (byResolving p i cells α) v c || member c s) (λ c. T.others α (byResolving p i cells α) v c || member c t)
+        tol-mono p (λ c. T.others α (byResolving p i cells α) v c || member c (asSet s)) (λ c. T.others α (byResolving p i cells α) v c || member c (asSet t))
             (λ c _ z. ⊎-elim
-            (λ a. or-left (T.others α (byResolving p i cells α) v c) (member c t) a)
-            (λ b. or-right (T.others α (byResolving p i cells α) v c) (member c t) (h c b))
-            (or-true (T.others α (byResolving p i cells α) v c) (member c s) z)) e,
+            (λ a. or-left (T.others α (byResolving p i cells α) v c) (member c (asSet t)) a)
+            (λ b. or-right (T.others α (byResolving p i cells α) v c) (member c (asSet t)) (h c b))
+            (or-true (T.others α (byResolving p i cells α) v c) (member c (asSet s)) z)) e,
       )
 
-  spared-here : (α : Label) (s : ℕ) → member (last α) (detectC p i run round cells α s) ≡ false → SparedBy s α
+  spared-here : (α : Label) (s : List Slot) → last α < 7 → member (last α) (asSet (detectC p i run round cells α s)) ≡ false → SparedBy s α
   unfolding passes explained tol
-  spared-here α s u =
+  spared-here α s below u =
       cases (passes p α (byResolving p i cells α) s)
-      (λ e. let new = subst (λ x. member (last α) x ≡ false) (detectC-kept p i run round α cells s e) u in
+      (λ e. let new = subst (λ x. member (last α) (asSet x) ≡ false) (detectC-kept p i run round α cells s e) u in
       let why : explained p α (byResolving p i cells α) s ≡ true =
-      ⊎-elim (λ t. clash t new) (λ t. t) (or-true (member (last α) s) (explained p α (byResolving p i cells α) s) e) in
-      any-true (λ v. tolerated (listed p) (setOf (λ c. (not (occurs c α) && not (same (byResolving p i cells α c) (some v))) || member c s) (p .n))) (p .span) why)
-      (λ e. clash (join-has run round Rule.C (length α) (last α) s) (subst (λ x. member (last α) x ≡ false) (detectC-joined p i run round α cells s e) u))
+      ⊎-elim (λ t. clash t new) (λ t. t) (or-true (member (last α) (asSet s)) (explained p α (byResolving p i cells α) s) e) in
+      any-true (λ v. tolerated (listed p) (setOf (λ c. (not (occurs c α) && not (same (byResolving p i cells α c) (some v))) || member c (asSet s)) (p .n))) (p .span) why)
+      (λ e. clash (join-has run round (Rule.C (length α)) (last α) s below) (subst (λ x. member (last α) (asSet x) ≡ false) (detectC-joined p i run round α cells s e) u))
 
-  level-spared : (αs : List Label) (s : ℕ) (α : Label) → List·Memᴰ α αs → member (last α) (detectAllC p i run round cells αs s) ≡ false → SparedBy s α
+  level-spared : (αs : List Label) (s : List Slot) (α : Label) → List·Memᴰ α αs → last α < 7 → member (last α) (asSet (detectAllC p i run round cells αs s)) ≡ false → SparedBy s α
   unfolding detectAllC
-  level-spared [] s α m u = absurd (List·Memᴰ·not-nil m)
-  level-spared (β ∷ αs) s α m u =
+  level-spared [] s α m below u = absurd (List·Memᴰ·not-nil m)
+  level-spared (β ∷ αs) s α m below u =
       let s′ = detectC p i run round cells β s in
       ⊎-elim
-      (λ e. subst (SparedBy s) (sym e) (spared-here β s (is-false (member (last β) s′) (λ t.
-      clash (level-grow αs s′ (last β) t) (subst (λ x. member (last x) (detectAllC p i run round cells αs s′) ≡ false) e u)))))
-      (λ m′. fewer α s s′ (detectC-grow β s) (level-spared αs s′ α m′ u))
+      (λ e. subst (SparedBy s) (sym e) (spared-here β s (subst (λ x. last x < 7) e below) (is-false (member (last β) (asSet s′)) (λ t.
+      clash (level-grow αs s′ (last β) t) (subst (λ x. member (last x) (asSet (detectAllC p i run round cells αs s′)) ≡ false) e u)))))
+      (λ m′. fewer α s s′ (detectC-grow β s) (level-spared αs s′ α m′ below u))
       (List·Memᴰ·cases-cons m)
 
-  pub levels-spared : (k s j : ℕ) (α : Label) → 1 ≤ j → j ≤ k → List·Memᴰ α (inner p i j) → member (last α) (detectLevels p i run round cells k s) ≡ false → SparedBy s α
+  pub levels-spared : (k : ℕ) (s : List Slot) (j : ℕ) (α : Label) → 1 ≤ j → j ≤ k → List·Memᴰ α (inner p i j) → last α < 7 → member (last α) (asSet (detectLevels p i run round cells k s)) ≡ false → SparedBy s α
   unfolding detectLevels
-  levels-spared zero s j α low high m u = absurd (omega arith)
-  levels-spared (suc k) s j α low high m u =
+  levels-spared zero s j α low high m below u = absurd (omega arith)
+  levels-spared (suc k) s j α low high m below u =
       let s′ = detectAllC p i run round cells (inner p i (suc k)) s in
       cases (eqb j (suc k))
-      (λ e. level-spared (inner p i (suc k)) s α (subst (λ x. List·Memᴰ α (inner p i x)) (eqb-true j (suc k) e) m)
-      (is-false (member (last α) s′) (λ t. clash (levels-grow k s′ (last α) t) u)))
+      (λ e. level-spared (inner p i (suc k)) s α (subst (λ x. List·Memᴰ α (inner p i x)) (eqb-true j (suc k) e) m) below
+      (is-false (member (last α) (asSet s′)) (λ t. clash (levels-grow k s′ (last α) t) u)))
       (λ e. let ne : j ≢ suc k = eqb-false j (suc k) e in
-      fewer α s s′ (level-grow (inner p i (suc k)) s) (levels-spared k s′ j α low (omega arith) m u))
+      fewer α s s′ (level-grow (inner p i (suc k)) s) (levels-spared k s′ j α low (omega arith) m below u))
 
   -- No healthy board is listed where the healthy children of each node of a healthy board resolve to one value.
-  module _ (F : ℕ) (G : T.Good (inst p) (listOf F)) where
+  module _ (F : ℕ) (G : T.Good (inst p) (boardsOf F)) where
     abbrev pub Minds : Label → Type 0
     Minds α = member (last α) F ≡ false
-        → (v : ℕ) × (v < p .span) × ((c : ℕ) → T.Healthy (inst p) (listOf F) c → occurs c α ≡ false → byResolving p i cells α c ≡ some v)
+        → (v : ℕ) × (v < p .span) × ((c : ℕ) → T.Healthy (inst p) (boardsOf F) c → occurs c α ≡ false → byResolving p i cells α c ≡ some v)
 
-    abbrev pub Sound : ℕ → Type 0
-    Sound s = T.Sub (p .n) (listOf s) (listOf F)
+    abbrev pub Sound : List Slot → Type 0
+    Sound s = T.Sub (p .n) (listOf s) (boardsOf F)
 
-    detectC-sound : (α : Label) (s : ℕ) {j : ℕ} → T.Node (inst p) i j α → Minds α → Sound s → Sound (detectC p i run round cells α s)
+    detectC-sound : (α : Label) (s : List Slot) {j : ℕ} → T.Node (inst p) i j α → Minds α → Sound s → Sound (detectC p i run round cells α s)
     unfolding passes
     detectC-sound α s N mind sound q lq t =
         cases (passes p α (byResolving p i cells α) s)
-        (λ e. sound q lq (subst (λ x. member q x ≡ true) (detectC-kept p i run round α cells s e) t))
+        (λ e. sound q lq (subst (λ x. member q (asSet x) ≡ true) (detectC-kept p i run round α cells s e) t))
         (λ e. ⊎-elim
         (λ x. is-true (member q F) (λ out.
         let (v, lv, u) = mind (subst (λ z. member z F ≡ false) x out) in
         clash (explained-inst p α (byResolving p i cells α) s ∙ spared G v (byResolving p i cells α) (listOf s) N lv u sound)
-        (or-r (member (last α) s) (explained p α (byResolving p i cells α) s) e)))
+        (or-r (member (last α) (asSet s)) (explained p α (byResolving p i cells α) s) e)))
         (sound q lq)
-        (join-inv run round Rule.C (length α) (last α) s q (subst (λ x. member q x ≡ true) (detectC-joined p i run round α cells s e) t)))
+        (join-inv run round (Rule.C (length α)) (last α) s q (subst (λ x. member q (asSet x) ≡ true) (detectC-joined p i run round α cells s e) t)))
 
-    level-sound : (αs : List Label) (s : ℕ) → ((α : Label) → List·Memᴰ α αs → (left : ℕ) × T.Node (inst p) i left α × Minds α) → Sound s
+    level-sound : (αs : List Label) (s : List Slot) → ((α : Label) → List·Memᴰ α αs → (left : ℕ) × T.Node (inst p) i left α × Minds α) → Sound s
         → Sound (detectAllC p i run round cells αs s)
     unfolding detectAllC
     level-sound [] s f sound = sound
@@ -128,7 +130,7 @@ module _ (p : Plan) (i : ℕ) (run : Run) (round : Round) (cells : List ℕ) whe
         let (left, N, mind) = f α (List·Memᴰ·head refl) in
         level-sound αs (detectC p i run round cells α s) (λ β w. f β (List·Memᴰ·tail w)) (detectC-sound α s N mind sound)
 
-    pub levels-sound : (k s : ℕ) → ((j : ℕ) (α : Label) → 1 ≤ j → j ≤ k → List·Memᴰ α (inner p i j) → (left : ℕ) × T.Node (inst p) i left α × Minds α)
+    pub levels-sound : (k : ℕ) (s : List Slot) → ((j : ℕ) (α : Label) → 1 ≤ j → j ≤ k → List·Memᴰ α (inner p i j) → (left : ℕ) × T.Node (inst p) i left α × Minds α)
         → Sound s → Sound (detectLevels p i run round cells k s)
     unfolding detectLevels
     levels-sound zero s h sound = sound
@@ -137,7 +139,7 @@ module _ (p : Plan) (i : ℕ) (run : Run) (round : Round) (cells : List ℕ) whe
         (level-sound (inner p i (suc k)) s (λ α m. h (suc k) α (omega arith) (omega arith) m) sound)
 
 -- 01: "L stays" when a run ends.
-pub convert-grow : (b : Board) (s : Scan) (q : ℕ) → member q (s .list) ≡ true → member q (convert b s .rec .list) ≡ true
+pub convert-grow : (b : Board) (s : Scan) (q : ℕ) → member q (asSet (s .list)) ≡ true → member q (asSet (convert b s .rec .list)) ≡ true
 unfolding convert runEnded
 convert-grow b s q h = let r = b .rec in levels-grow (r .plan) (r .board) (r .run) (r .round) (s .cells) (rounds (r .plan) .0 - 1) (s .list) q h
 

@@ -28,6 +28,8 @@ use Rattle.tree.proofs.Cells.{store-length, store-same, store-other}
 use Rattle.theory.specs.Tree as T
 use Rattle.theory.specs.Runs as R
 use Rattle.theory.proofs.Soundness.{spared}
+use Rattle.protocol.specs.declared.records.Slot.{Slot}
+use Rattle.protocol.specs.Listing.{asSet}
 use Rattle.protocol.specs.Nodes.{read, nodes, inner}
 use Rattle.protocol.specs.declared.records.Rule.the-variants as Rule
 use Rattle.protocol.specs.Detection.{explained, byCell, passes, Scan, maskBoard, detectG, detectAllG}
@@ -35,12 +37,13 @@ use Rattle.protocol.proofs.Rules.{detectG-joined, detectG-kept}
 use Rattle.protocol.proofs.Nodes.{no-node, inner-inv, node-label, node-has}
 use Rattle.protocol.proofs.Fill.{IsLabel, label-dec, value-default}
 use Rattle.synchronous.proofs.Local.{detectG-length}
+use Rattle.protocol.proofs.Bounds.{inner-below}
 use Rattle.protocol.proofs.Listing.{join-has, join-keeps, join-inv}
 use Rattle.protocol.proofs.Tolerance.{tol, tol-mono}
-use Rattle.agreement.proofs.Instance.{listOf, inst}
+use Rattle.agreement.proofs.Instance.{boardsOf, listOf, inst}
 
 -- The definitions' test is the theory's.
-pub explained-inst : (p : Plan) (α : Label) (f : ℕ → Option ℕ) (s : ℕ) → explained p α f s ≡ R.explained (inst p) α f (listOf s)
+pub explained-inst : (p : Plan) (α : Label) (f : ℕ → Option ℕ) (s : List Slot) → explained p α f s ≡ R.explained (inst p) α f (listOf s)
 unfolding explained R.explained tol
 explained-inst p α f s = refl
 
@@ -70,17 +73,20 @@ module _ (p : Plan) (l : p .dealer < p .n) (i : ℕ) where
   child-label (suc j) α w c lc a = node-label p i (suc (suc j)) (c ∷ α) (node-has p i j α c w lc a)
 
 -- The rule of board i, in a run and a round.
-module _ (p : Plan) (l : p .dealer < p .n) (i : ℕ) (run : Run) (round : Round) where
+module _ (p : Plan) (l : p .dealer < p .n) (few : p .n ≤ 7) (i : ℕ) (run : Run) (round : Round) where
   -- One node.
   module _ (k : ℕ) (α : Label) (w : List·Memᴰ α (inner p i k)) where
-    pub detectG-grow : (s : Scan) (r : ℕ) → member r (s .list) ≡ true → member r (detectG p i run round α s .list) ≡ true
+    end-below : last α < 7
+    end-below = omega (arith, inner-below p l i k α w)
+
+    pub detectG-grow : (s : Scan) (r : ℕ) → member r (asSet (s .list)) ≡ true → member r (asSet (detectG p i run round α s .list)) ≡ true
     detectG-grow s r h =
         cases (passes p α (byCell p (s .cells) α) (s .list))
         (λ e. rw (detectG-kept p i run round α s e) h)
-        (λ e. rw (detectG-joined p i run round α s e) (join-keeps run round Rule.G (length α) (last α) (s .list) r h))
+        (λ e. rw (detectG-joined p i run round α s e) (join-keeps run round (Rule.G (length α)) (last α) (s .list) r h))
 
     pub detectG-cell : (s : Scan) (b : ℕ) (δ : Label) → IsLabel p l b δ → cellCount (p .n) ≤ length (s .cells)
-        → (read p (detectG p i run round α s .cells) δ ≡ read p (s .cells) δ) ⊎ ((read p (detectG p i run round α s .cells) δ ≡ default p) × (member (last δ) (detectG p i run round α s .list) ≡ true))
+        → (read p (detectG p i run round α s .cells) δ ≡ read p (s .cells) δ) ⊎ ((read p (detectG p i run round α s .cells) δ ≡ default p) × (member (last δ) (asSet (detectG p i run round α s .list)) ≡ true))
     unfolding read
     detectG-cell s b δ m room =
         cases (passes p α (byCell p (s .cells) α) (s .list))
@@ -88,14 +94,14 @@ module _ (p : Plan) (l : p .dealer < p .n) (i : ℕ) (run : Run) (round : Round)
         (λ e. rw (detectG-joined p i run round α s e)
         (⊎-elim
         (λ q. inl (ap (value p) q))
-        (λ q. inr (ap (value p) (q .0) ∙ value-default p, rw (q .1) (join-has run round Rule.G (length α) (last α) (s .list))))
+        (λ q. inr (ap (value p) (q .0) ∙ value-default p, rw (q .1) (join-has run round (Rule.G (length α)) (last α) (s .list) end-below)))
         (mask-cell p l i (last α) (suc (length α)) (nodes p i (suc (length α))) (s .cells) b δ (λ γ x. node-label p i (suc (length α)) γ x) m room)))
 
   abbrev Level : ℕ → List Label → Type 0
   Level k αs = (α : Label) → List·Memᴰ α αs → List·Memᴰ α (inner p i k)
 
   module _ (k : ℕ) where
-    pub scan-grow : (αs : List Label) (s : Scan) (r : ℕ) → Level k αs → member r (s .list) ≡ true → member r (detectAllG p i run round αs s .list) ≡ true
+    pub scan-grow : (αs : List Label) (s : Scan) (r : ℕ) → Level k αs → member r (asSet (s .list)) ≡ true → member r (asSet (detectAllG p i run round αs s .list)) ≡ true
     unfolding detectAllG
     scan-grow [] s r h t = t
     scan-grow (α ∷ αs) s r h t =
@@ -108,7 +114,7 @@ module _ (p : Plan) (l : p .dealer < p .n) (i : ℕ) (run : Run) (round : Round)
 
     -- What a scan does to a cell: nothing, or it is masked.
     abbrev pub Kept : Scan → Scan → Label → Type 0
-    Kept s e δ = (read p (e .cells) δ ≡ read p (s .cells) δ) ⊎ ((read p (e .cells) δ ≡ default p) × (member (last δ) (e .list) ≡ true))
+    Kept s e δ = (read p (e .cells) δ ≡ read p (s .cells) δ) ⊎ ((read p (e .cells) δ ≡ default p) × (member (last δ) (asSet (e .list)) ≡ true))
 
     pub scan-cell : (αs : List Label) (s : Scan) (b : ℕ) (δ : Label) → Level k αs → IsLabel p l b δ → cellCount (p .n) ≤ length (s .cells)
         → Kept s (detectAllG p i run round αs s) δ
@@ -128,40 +134,40 @@ module _ (p : Plan) (l : p .dealer < p .n) (i : ℕ) (run : Run) (round : Round)
 
     -- A board that is not listed in the end was spared at its node, by cells and list as they stand in the end.
     abbrev pub SparedBy : Scan → Label → Type 0
-    SparedBy e α = (v : ℕ) × (v < p .span) × (tol p (λ c. not (member c (e .list)) && T.others α (byCell p (e .cells) α) v c) ≡ true)
+    SparedBy e α = (v : ℕ) × (v < p .span) × (tol p (λ c. not (member c (asSet (e .list))) && T.others α (byCell p (e .cells) α) v c) ≡ true)
 
     spared-here : (α : Label) (αs : List Label) (s : Scan) → List·Memᴰ α (inner p i k) → Level k αs → cellCount (p .n) ≤ length (s .cells)
-        → member (last α) (detectAllG p i run round αs (detectG p i run round α s) .list) ≡ false → SparedBy (detectAllG p i run round αs (detectG p i run round α s)) α
+        → member (last α) (asSet (detectAllG p i run round αs (detectG p i run round α s) .list)) ≡ false → SparedBy (detectAllG p i run round αs (detectG p i run round α s)) α
     unfolding passes explained byCell last tol
     spared-here α αs s w h room u =
         cases (passes p α (byCell p (s .cells) α) (s .list))
         (λ e. let kept = detectG-kept p i run round α s e in
-        let u′ : member (last α) (detectAllG p i run round αs s .list) ≡ false = subst (λ x. member (last α) (detectAllG p i run round αs x .list) ≡ false) kept u in
-        let new : member (last α) (s .list) ≡ false = is-false (member (last α) (s .list)) (λ t. clash (scan-grow αs s (last α) h t) u′) in
+        let u′ : member (last α) (asSet (detectAllG p i run round αs s .list)) ≡ false = subst (λ x. member (last α) (asSet (detectAllG p i run round αs x .list)) ≡ false) kept u in
+        let new : member (last α) (asSet (s .list)) ≡ false = is-false (member (last α) (asSet (s .list))) (λ t. clash (scan-grow αs s (last α) h t) u′) in
         let why : explained p α (byCell p (s .cells) α) (s .list) ≡ true =
-        ⊎-elim (λ t. clash t new) (λ t. t) (or-true (member (last α) (s .list)) (explained p α (byCell p (s .cells) α) (s .list)) e) in
-        let (v, lv, t) = any-true (λ v. tolerated (listed p) (setOf (λ c. (not (occurs c α) && not (same (byCell p (s .cells) α c) (some v))) || member c (s .list)) (p .n))) (p .span) why in
+        ⊎-elim (λ t. clash t new) (λ t. t) (or-true (member (last α) (asSet (s .list))) (explained p α (byCell p (s .cells) α) (s .list)) e) in
+        let (v, lv, t) = any-true (λ v. tolerated (listed p) (setOf (λ c. (not (occurs c α) && not (same (byCell p (s .cells) α c) (some v))) || member c (asSet (s .list))) (p .n))) (p .span) why in
         subst (λ x. SparedBy (detectAllG p i run round αs x) α) (sym kept) (
           v,
           lv,
-          tol-mono p (λ c. not (member c (detectAllG p i run round αs s .list)) && T.others α (byCell p (detectAllG p i run round αs s .cells) α) v c)
-              (λ c. (not (occurs c α) && not (same (byCell p (s .cells) α c) (some v))) || member c (s .list))
+          tol-mono p (λ c. not (member c (asSet (detectAllG p i run round αs s .list))) && T.others α (byCell p (detectAllG p i run round αs s .cells) α) v c)
+              (λ c. (not (occurs c α) && not (same (byCell p (s .cells) α c) (some v))) || member c (asSet (s .list)))
               (λ c lc z.
               let e′ = detectAllG p i run round αs s in
-              let out = not-t (member c (e′ .list)) (and-l (not (member c (e′ .list))) (T.others α (byCell p (e′ .cells) α) v c) z) in
-              let oth = and-r (not (member c (e′ .list))) (T.others α (byCell p (e′ .cells) α) v c) z in
+              let out = not-t (member c (asSet (e′ .list))) (and-l (not (member c (asSet (e′ .list)))) (T.others α (byCell p (e′ .cells) α) v c) z) in
+              let oth = and-r (not (member c (asSet (e′ .list)))) (T.others α (byCell p (e′ .cells) α) v c) z in
               let a = not-t (occurs c α) (and-l (not (occurs c α)) (not (same (byCell p (e′ .cells) α c) (some v))) oth) in
               let cell : read p (e′ .cells) (c ∷ α) ≡ read p (s .cells) (c ∷ α) =
               ⊎-elim (λ x. x) (λ x. clash (x .1) out) (scan-cell αs s (suc k) (c ∷ α) h (child-label p l i k α w c lc a) room) in
-              or-left (not (occurs c α) && not (same (byCell p (s .cells) α c) (some v))) (member c (s .list))
+              or-left (not (occurs c α) && not (same (byCell p (s .cells) α c) (some v))) (member c (asSet (s .list)))
               (subst (λ x. (not (occurs c α) && not (same (some x) (some v))) ≡ true) cell oth))
               t,
         ))
         (λ e. let joined = detectG-joined p i run round α s e in
-        clash (scan-grow αs (detectG p i run round α s) (last α) h (rw joined (join-has run round Rule.G (length α) (last α) (s .list)))) u)
+        clash (scan-grow αs (detectG p i run round α s) (last α) h (rw joined (join-has run round (Rule.G (length α)) (last α) (s .list) (end-below k α w)))) u)
 
     pub scan-spared : (αs : List Label) (s : Scan) (α : Label) → Level k αs → List·Memᴰ α αs → cellCount (p .n) ≤ length (s .cells)
-        → member (last α) (detectAllG p i run round αs s .list) ≡ false → SparedBy (detectAllG p i run round αs s) α
+        → member (last α) (asSet (detectAllG p i run round αs s .list)) ≡ false → SparedBy (detectAllG p i run round αs s) α
     unfolding detectAllG
     scan-spared [] s α h m room u = absurd (List·Memᴰ·not-nil m)
     scan-spared (β ∷ αs) s α h m room u =
@@ -169,32 +175,32 @@ module _ (p : Plan) (l : p .dealer < p .n) (i : ℕ) (run : Run) (round : Round)
         let rest : Level k αs = λ γ w. h γ (List·Memᴰ·tail w) in
         ⊎-elim
         (λ e. subst (λ x. SparedBy (detectAllG p i run round αs (detectG p i run round β s)) x) (sym e)
-        (spared-here β αs s here rest room (subst (λ x. member (last x) (detectAllG p i run round αs (detectG p i run round β s) .list) ≡ false) e u)))
+        (spared-here β αs s here rest room (subst (λ x. member (last x) (asSet (detectAllG p i run round αs (detectG p i run round β s) .list)) ≡ false) e u)))
         (λ m′. scan-spared αs (detectG p i run round β s) α rest m′ (rw (same-length β here s) room) u)
         (List·Memᴰ·cases-cons m)
 
     -- No healthy board is listed where the healthy children of each node of a healthy board have one value.
-    module _ (F : ℕ) (G : T.Good (inst p) (listOf F)) where
+    module _ (F : ℕ) (G : T.Good (inst p) (boardsOf F)) where
       abbrev pub Minds : Scan → Label → Type 0
       Minds s α = member (last α) F ≡ false
-          → (v : ℕ) × (v < p .span) × ((c : ℕ) → T.Healthy (inst p) (listOf F) c → occurs c α ≡ false → read p (s .cells) (c ∷ α) ≡ v)
+          → (v : ℕ) × (v < p .span) × ((c : ℕ) → T.Healthy (inst p) (boardsOf F) c → occurs c α ≡ false → read p (s .cells) (c ∷ α) ≡ v)
 
       abbrev pub Sound : Scan → Type 0
-      Sound s = T.Sub (p .n) (listOf (s .list)) (listOf F)
+      Sound s = T.Sub (p .n) (listOf (s .list)) (boardsOf F)
 
       detectG-sound : (α : Label) (s : Scan) {j : ℕ} → T.Node (inst p) i j α → List·Memᴰ α (inner p i k) → Minds s α → Sound s → Sound (detectG p i run round α s)
       unfolding passes byCell
       detectG-sound α s N w mind sound q lq t =
           cases (passes p α (byCell p (s .cells) α) (s .list))
-          (λ e. sound q lq (subst (λ x. member q (x .list) ≡ true) (detectG-kept p i run round α s e) t))
+          (λ e. sound q lq (subst (λ x. member q (asSet (x .list)) ≡ true) (detectG-kept p i run round α s e) t))
           (λ e. ⊎-elim
           (λ x. is-true (member q F) (λ out.
           let (v, lv, same-value) = mind (subst (λ z. member z F ≡ false) x out) in
           clash (explained-inst p α (byCell p (s .cells) α) (s .list)
           ∙ spared G v (byCell p (s .cells) α) (listOf (s .list)) N lv (λ c C a. ap some (same-value c C a)) sound)
-          (or-r (member (last α) (s .list)) (explained p α (byCell p (s .cells) α) (s .list)) e)))
+          (or-r (member (last α) (asSet (s .list))) (explained p α (byCell p (s .cells) α) (s .list)) e)))
           (sound q lq)
-          (join-inv run round Rule.G (length α) (last α) (s .list) q (subst (λ x. member q (x .list) ≡ true) (detectG-joined p i run round α s e) t)))
+          (join-inv run round (Rule.G (length α)) (last α) (s .list) q (subst (λ x. member q (asSet (x .list)) ≡ true) (detectG-joined p i run round α s e) t)))
 
       pub scan-sound : (αs : List Label) (s : Scan) {j : ℕ} → ((α : Label) → List·Memᴰ α αs → T.Node (inst p) i j α) → Level k αs
           → cellCount (p .n) ≤ length (s .cells) → ((α : Label) → List·Memᴰ α αs → Minds s α) → Sound s → Sound (detectAllG p i run round αs s)

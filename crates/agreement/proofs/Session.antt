@@ -26,6 +26,7 @@ use Rattle.theory.specs.Tree as T
 use Rattle.theory.specs.Runs as U
 use Rattle.theory.proofs.Agreement.{persistence, validity, detection, cut-agreement, full-agreement}
 use Rattle.protocol.specs.declared.records.Record.{Record}
+use Rattle.protocol.specs.Listing.{asSet}
 use Rattle.protocol.specs.Records.{runEnded}
 use Rattle.protocol.specs.Rounds.{Board, rootOnly, convert, close}
 use Rattle.protocol.specs.Session.{Adversary, Setting, at, keeper, Sound}
@@ -35,7 +36,7 @@ use Rattle.synchronous.proofs.Reached.{close-good, close-plan}
 use Rattle.synchronous.proofs.Synchronous.{standing, ready, ready-open, after-step}
 use Rattle.agreement.specs.Lists.{onEvery}
 use Rattle.agreement.specs.Claims.{ended, rootAfter, listEnded, SessionAgreement, Synchronous}
-use Rattle.agreement.proofs.Instance.{inst, listOf}
+use Rattle.agreement.proofs.Instance.{inst, boardsOf}
 use Rattle.agreement.proofs.Delivery.{good, healthy, healthy-keeper, st}
 use Rattle.agreement.proofs.Soundness.{open-round, inv, run-ends, lists-within}
 use Rattle.agreement.proofs.TheorySession.{last-step, in-time, at-end, number, run-number, lists, roots, resolved, left-root, session}
@@ -59,15 +60,15 @@ module _ (s : Setting) (a : Adversary) (sound : Sound s) where
   last-of-all = let z : suc last-run ≡ runs plan .0 = omega (arith, runs-pos plan) in omega (arith, suc-mul last-run (rounds plan .0 - 1), rounds-pos plan)
 
   -- Lists name boards below n.
-  list-below : (j i : ℕ) → j ≤ steps plan → keeper s i ≡ true → at s a j i .rec .list < 2 ^ plan .n
+  list-below : (j i : ℕ) → j ≤ steps plan → keeper s i ≡ true → asSet (at s a j i .rec .list) < 2 ^ plan .n
   list-below zero i h ki =
       let x = standing s a sound 0 i ki (omega (arith, last-of-all)) in
-      subst (λ (r : Record). at s a 0 i .rec .list < 2 ^ r .plan .n) (x .shape) (x .good .list-below)
+      subst (λ (r : Record). asSet (at s a 0 i .rec .list) < 2 ^ r .plan .n) (x .shape) (x .good .list-good .below)
   list-below (suc j) i h ki =
       let x = st s a sound j i ki h in
       let b = ready s a sound j i ki x h in
-      subst (λ (c : Board). c .rec .list < 2 ^ plan .n) (sym (after-step s a sound j i ki x h))
-      (subst (λ (p : Plan). close b .rec .list < 2 ^ p .n) (close-plan b) (close-good b (ready-open s a sound j i ki x h .good) .list-below))
+      subst (λ (c : Board). asSet (c .rec .list) < 2 ^ plan .n) (sym (after-step s a sound j i ki x h))
+      (subst (λ (p : Plan). asSet (close b .rec .list) < 2 ^ p .n) (close-plan b) (close-good b (ready-open s a sound j i ki x h .good) .list-good .below))
 
   root-after : (t : ℕ) → t < runs plan .0 → (i : ℕ) → keeper s i ≡ true → rootAfter s a (suc t) i ≡ roots s a sound t i
   unfolding rootAfter ended rootOnly
@@ -111,17 +112,17 @@ module _ (s : Setting) (a : Adversary) (sound : Sound s) where
       (λ e. full-agreement G S (small-sets e) last-run in-runs (healthy s a sound i ki) (healthy s a sound k kk))
 
   -- The boards on every list, as the theory has them.
-  every-list : (t : ℕ) → t < runs plan .0 → (r : ℕ) → U.global (inst plan) (listOf F) (lists s a sound (suc t)) r ≡ onEvery s (listEnded s a (suc t)) r
+  every-list : (t : ℕ) → t < runs plan .0 → (r : ℕ) → U.global (inst plan) (boardsOf F) (lists s a sound (suc t)) r ≡ onEvery s (listEnded s a (suc t)) r
   unfolding U.allHealthy onEvery listEnded ended keeper
   every-list t lt r =
       ap not (any-same
-      (U.fails (inst plan) (listOf F) (λ i. lists s a sound (suc t) i r))
-      (λ i. keeper s i && not (member r (ended s a (suc t) i .rec .list))) (plan .n)
+      (U.fails (inst plan) (boardsOf F) (λ i. lists s a sound (suc t) i r))
+      (λ i. keeper s i && not (member r (asSet (ended s a (suc t) i .rec .list)))) (plan .n)
       (λ i l. rw (lt-ltb i (plan .n) l, number s a sound t lt) (sym (and-assoc (not (member i F)) (not (eqb i (plan .dealer))) _))))
 
   pub session-agreement : SessionAgreement s a
   session-agreement = record {
-    sound = λ j i h ki. member-within (plan .n) (at s a j i .rec .list) F (list-below j i h ki) (lists-within s a sound j i h ki);
+    sound = λ j i h ki. member-within (plan .n) (asSet (at s a j i .rec .list)) F (list-below j i h ki) (lists-within s a sound j i h ki);
     decided = λ i ki. decision i ki .0;
     equal = λ i k ki kk. decision i ki .1 ∙ agreed i k ki kk ∙ sym (decision k kk .1);
     dealers = λ f i ki. decision i ki .1 ∙ validity (good s a sound) (session s a sound) f last-run i in-runs (healthy s a sound i ki);
@@ -146,7 +147,7 @@ module _ (s : Setting) (a : Adversary) (sound : Sound s) where
           let many = detection (good s a sound) (session s a sound) (depthOf plan - 3) (let z : rounds plan .0 - 1 ≡ suc (suc (depthOf plan - 3)) = omega arith in z)
           t lt (healthy s a sound i ki) (healthy s a sound k kk)
           (λ z. ne (subst (λ x. rootAfter s a x i ≡ rootAfter s a x k) (sym et) (root-after t lt i ki ∙ z ∙ sym (root-after t lt k kk)))) in
-          let same = count-same (U.global (inst plan) (listOf F) (lists s a sound (suc t))) (onEvery s (listEnded s a (suc t))) (plan .n) (λ q _. every-list t lt q) in
+          let same = count-same (U.global (inst plan) (boardsOf F) (lists s a sound (suc t))) (onEvery s (listEnded s a (suc t))) (plan .n) (λ q _. every-list t lt q) in
           subst (λ x. x * (depthOf plan - 3) + 1 ≤ count (onEvery s (listEnded s a x)) (plan .n)) (sym et) (omega arith)
 
 pub synchronous : Synchronous

@@ -27,12 +27,14 @@ use Rattle.theory.specs.Runs.{Flow}
 use Rattle.theory.specs.Tree.{root, child}
 use Rattle.theory.proofs.Uniform.{uniform, healthy-node}
 use Rattle.protocol.specs.declared.records.Record.{Record}
+use Rattle.protocol.specs.Listing.{asSet}
 use Rattle.protocol.specs.Nodes.{read, internal, inner, sent, due}
 use Rattle.protocol.specs.Detection.{Scan, byResolving, resolveRoot, detectLevels}
 use Rattle.protocol.specs.Records.{runEnded}
 use Rattle.protocol.specs.Rounds.{rootOnly, nextRound, convert, Board, gather}
 use Rattle.protocol.specs.Session.{Adversary, Setting, at, takeAll, keeper, Sound}
 use Rattle.protocol.specs.Calls.{freshRecord}
+use Rattle.protocol.proofs.Listing.{none-listed}
 use Rattle.protocol.proofs.Nodes.{inner-moves, inner-inv, inner-has, node-label, node-length, node-root, node-inv, node-has, no-node}
 use Rattle.protocol.proofs.Fill.{IsLabel}
 use Rattle.protocol.proofs.Judgement.{plan-facts, plan-default}
@@ -40,9 +42,9 @@ use Rattle.protocol.proofs.Bounds.{read-small, root-small}
 use Rattle.synchronous.proofs.Hearing.{stored, filled, filled-length, delivered, value-same}
 use Rattle.synchronous.proofs.Synchronous.{at-start, begun-shape, told, keeper-facts, standing, position, number, heard-all, ready, after-step, close-next, close-last, next-run, more-runs}
 use Rattle.agreement.proofs.RuleC.{Minds, levels-sound}
-use Rattle.agreement.proofs.Instance.{inst, mem-node, node-mem, node-level, node-size, resolve-inst, listOf}
+use Rattle.agreement.proofs.Instance.{inst, mem-node, node-mem, node-level, node-size, resolve-inst, boardsOf, listOf}
 use Rattle.agreement.proofs.RuleG.{scan-cell, scan-sound}
-use Rattle.agreement.proofs.Delivery.{good, healthy, healthy-keeper, told-word, st, rec, rec-good, stored-cells, scanned, stored-healthy, scanned-other}
+use Rattle.agreement.proofs.Delivery.{most-boards, good, healthy, healthy-keeper, told-word, st, rec, rec-good, stored-cells, scanned, stored-healthy, scanned-other}
 
 module _ (s : Setting) (a : Adversary) (sound : Sound s) where
   abbrev plan : Plan
@@ -62,7 +64,7 @@ module _ (s : Setting) (a : Adversary) (sound : Sound s) where
 
   pub record Inv (j : ℕ) : Type 0 where
     -- lists hold faulty boards only
-    pub lists : (i : ℕ) → keeper s i ≡ true → T.Sub (plan .n) (listOf (at s a j i .rec .list)) (listOf F)
+    pub lists : (i : ℕ) → keeper s i ≡ true → T.Sub (plan .n) (listOf (at s a j i .rec .list)) (boardsOf F)
     -- in the levels that are filled, a healthy board's child has that board's cell
     pub deliver : (i q e : ℕ) (α : Label) → keeper s i ≡ true → keeper s q ≡ true → List·Memᴰ α (inner plan i (suc e)) → occurs q α ≡ false
         → suc (suc e) < open-round j → read plan (at s a j i .cells) (q ∷ α) ≡ read plan (at s a j q .cells) α
@@ -78,12 +80,12 @@ module _ (s : Setting) (a : Adversary) (sound : Sound s) where
     dealer-below = plan-facts plan (sound .accepted) .dealer-below
 
     -- a healthy board is not listed
-    unlisted : (i q : ℕ) → keeper s i ≡ true → q < plan .n → member q F ≡ false → member q (at s a j i .rec .list) ≡ false
-    unlisted i q ki lq f = is-false (member q (at s a j i .rec .list)) (λ t. clash (I .lists i ki q lq t) f)
+    unlisted : (i q : ℕ) → keeper s i ≡ true → q < plan .n → member q F ≡ false → member q (asSet (at s a j i .rec .list)) ≡ false
+    unlisted i q ki lq f = is-false (member q (asSet (at s a j i .rec .list))) (λ t. clash (I .lists i ki q lq t) f)
 
     -- The healthy children of a healthy board's node have one value.
     minds : (i e : ℕ) (ki : keeper s i ≡ true) (α : Label) → open-round j ≡ suc (suc e) → List·Memᴰ α (inner plan i (suc e)) → member (last α) F ≡ false
-        → (v : ℕ) × (v < plan .span) × ((c : ℕ) → T.Healthy (inst plan) (listOf F) c → occurs c α ≡ false → read plan (stored-cells s a sound j i ki l) (c ∷ α) ≡ v)
+        → (v : ℕ) × (v < plan .span) × ((c : ℕ) → T.Healthy (inst plan) (boardsOf F) c → occurs c α ≡ false → read plan (stored-cells s a sound j i ki l) (c ∷ α) ≡ v)
     unfolding last occurs
     minds i zero ki α ek m out =
         let z : α ≡ plan .dealer ∷ [] = node-root plan i α (inner-inv plan i 1 α m .0) in
@@ -124,11 +126,11 @@ module _ (s : Setting) (a : Adversary) (sound : Sound s) where
         rw (filled-length (rec s a sound j i ki l) (rec-good s a sound j i ki l) refl (told s a i j) (at s a j i .cells) (t .room)) (t .room)
 
     -- Rule G lists faulty boards only.
-    pub scan-lists : (i : ℕ) (ki : keeper s i ≡ true) → T.Sub (plan .n) (listOf (scanned s a sound j i ki l .list)) (listOf F)
+    pub scan-lists : (i : ℕ) (ki : keeper s i ≡ true) → T.Sub (plan .n) (listOf (scanned s a sound j i ki l .list)) (boardsOf F)
     scan-lists i ki =
         let k = open-round j - 1 in
         let high = position s a sound j i ki (standing s a sound j i ki l) l .round-high in
-        scan-sound plan dealer-below i (stepRun plan (suc j)) (stepRound plan (suc j)) k F (good s a sound) (inner plan i k)
+        scan-sound plan dealer-below (most-boards s a sound) i (stepRun plan (suc j)) (stepRound plan (suc j)) k F (good s a sound) (inner plan i k)
         (record { list = at s a j i .rec .list; cells = stored-cells s a sound j i ki l })
         {j = rounds plan .0 - k}
         (λ α m. mem-node plan i k (rounds plan .0 - k) α (inner-inv plan i k α m .0) (omega arith))
@@ -145,7 +147,7 @@ module _ (s : Setting) (a : Adversary) (sound : Sound s) where
     unfolding last
     scan-keeps i q ki b α lq f w =
         ⊎-elim (λ x. x) (λ x. clash (scan-lists i ki q lq (x .1)) f)
-        (scan-cell plan dealer-below i (stepRun plan (suc j)) (stepRound plan (suc j)) (open-round j - 1) (inner plan i (open-round j - 1))
+        (scan-cell plan dealer-below (most-boards s a sound) i (stepRun plan (suc j)) (stepRound plan (suc j)) (open-round j - 1) (inner plan i (open-round j - 1))
         (record { list = at s a j i .rec .list; cells = stored-cells s a sound j i ki l }) b (q ∷ α) (λ _ m. m) w (room i ki))
 
     -- After rule G a healthy board's child has that board's cell, in this level too.
@@ -213,13 +215,13 @@ module _ (s : Setting) (a : Adversary) (sound : Sound s) where
 
     -- At the end of a run.
     module _ (end : open-round j ≡ rounds plan .0) where
-      pub flow : Flow (inst plan) (listOf F) cell-of
+      pub flow : Flow (inst plan) (boardsOf F) cell-of
       flow = record {
         small = λ {p = i} {k} {α} H N. read-small plan default-below (scan-of i .cells) α;
         deliver = λ {p = i} {q} {k} {α} H K N inn out. go i q k α H K N inn out;
       }
         where
-          go : (i q k : ℕ) (α : Label) → T.Healthy (inst plan) (listOf F) i → T.Healthy (inst plan) (listOf F) q → T.Node (inst plan) i (suc k) α
+          go : (i q k : ℕ) (α : Label) → T.Healthy (inst plan) (boardsOf F) i → T.Healthy (inst plan) (boardsOf F) q → T.Node (inst plan) i (suc k) α
               → internal plan i α ≡ true → occurs q α ≡ false → cell-of i (q ∷ α) ≡ cell-of q α
           go i q k α H K N inn out =
               let level = node-level plan N in
@@ -254,12 +256,12 @@ module _ (s : Setting) (a : Adversary) (sound : Sound s) where
 
       -- Rule C lists faulty boards only.
       pub convert-lists : (i : ℕ) → keeper s i ≡ true
-          → T.Sub (plan .n) (listOf (detectLevels plan i (stepRun plan (suc j)) (stepRound plan (suc j)) (scan-of i .cells) (rounds plan .0 - 1) (scan-of i .list))) (listOf F)
+          → T.Sub (plan .n) (listOf (detectLevels plan i (stepRun plan (suc j)) (stepRound plan (suc j)) (scan-of i .cells) (rounds plan .0 - 1) (scan-of i .list))) (boardsOf F)
       unfolding byResolving
       convert-lists i ki =
           levels-sound plan i (stepRun plan (suc j)) (stepRound plan (suc j)) (scan-of i .cells) F (good s a sound) (rounds plan .0 - 1) (scan-of i .list)
           (λ k α low high m. at-level k α low high m)
-          (subst (λ x. T.Sub (plan .n) (listOf (x .list)) (listOf F)) (sym (scan-is i ki)) (scan-lists i ki))
+          (subst (λ x. T.Sub (plan .n) (listOf (x .list)) (boardsOf F)) (sym (scan-is i ki)) (scan-lists i ki))
         where
           at-level : (k : ℕ) (α : Label) → 1 ≤ k → k ≤ rounds plan .0 - 1 → List·Memᴰ α (inner plan i k)
               → (left : ℕ) × T.Node (inst plan) i left α × Minds plan i (stepRun plan (suc j)) (stepRound plan (suc j)) (scan-of i .cells) F (good s a sound) α
@@ -314,14 +316,14 @@ module _ (s : Setting) (a : Adversary) (sound : Sound s) where
       high = position s a sound j i ki (st s a sound j i ki l) l .round-high
 
       -- Its list holds faulty boards only.
-      pub lists-next : T.Sub (plan .n) (listOf (at s a (suc j) i .rec .list)) (listOf F)
+      pub lists-next : T.Sub (plan .n) (listOf (at s a (suc j) i .rec .list)) (boardsOf F)
       unfolding nextRound convert runEnded
       lists-next =
           cases (ltb (open-round j) (rounds plan .0))
-          (λ e. subst (λ b. T.Sub (plan .n) (listOf (b .rec .list)) (listOf F)) (sym (within-run (ltb-true (open-round j) (rounds plan .0) e)))
-          (subst (λ x. T.Sub (plan .n) (listOf (x .list)) (listOf F)) (sym (scan-is i ki)) (scan-lists i ki)))
+          (λ e. subst (λ b. T.Sub (plan .n) (listOf (b .rec .list)) (boardsOf F)) (sym (within-run (ltb-true (open-round j) (rounds plan .0) e)))
+          (subst (λ x. T.Sub (plan .n) (listOf (x .list)) (boardsOf F)) (sym (scan-is i ki)) (scan-lists i ki)))
           (λ e. let ge = ltb-false (open-round j) (rounds plan .0) e in
-          subst (λ b. T.Sub (plan .n) (listOf (b .rec .list)) (listOf F)) (sym (run-ends ge)) (convert-lists (omega (arith, high)) i ki))
+          subst (λ b. T.Sub (plan .n) (listOf (b .rec .list)) (boardsOf F)) (sym (run-ends ge)) (convert-lists (omega (arith, high)) i ki))
 
       -- The round that is open next.
       next-open : suc j < steps plan → at s a (suc j) i .rec .round .0 ≡ open-round (suc j)
@@ -362,7 +364,7 @@ module _ (s : Setting) (a : Adversary) (sound : Sound s) where
   -- At the start lists are empty.
   pub inv-start : 0 < steps plan → Inv 0
   inv-start l = record {
-    lists = λ i ki q lq t. clash (subst (λ x. member q (x .list) ≡ true) (fresh i ki) t) (unfold freshRecord in member-empty q);
+    lists = λ i ki q lq t. clash (subst (λ x. member q (asSet (x .list)) ≡ true) (fresh i ki) t) (unfold freshRecord in ap (member q) none-listed ∙ member-empty q);
     deliver = λ i q e α ki kq m out h. absurd (let y : ⊥ = omega (arith, one i ki) in y);
     root = λ h f i ki. absurd (let y : ⊥ = omega (arith, one i ki) in y);
   }
@@ -379,7 +381,7 @@ module _ (s : Setting) (a : Adversary) (sound : Sound s) where
   inv (suc j) l = inv-next j (omega arith) (inv j (omega arith)) l
 
   -- 003, section 3.2: every list of a healthy board lies within F, after every step.
-  pub lists-within : (j i : ℕ) → j ≤ steps plan → keeper s i ≡ true → T.Sub (plan .n) (listOf (at s a j i .rec .list)) (listOf F)
+  pub lists-within : (j i : ℕ) → j ≤ steps plan → keeper s i ≡ true → T.Sub (plan .n) (listOf (at s a j i .rec .list)) (boardsOf F)
   lists-within zero i h ki = inv-start (some-step i ki) .lists i ki
     where
       some-step : (i : ℕ) → keeper s i ≡ true → 0 < steps plan

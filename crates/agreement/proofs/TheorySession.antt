@@ -22,13 +22,14 @@ use Rattle.tree.proofs.Labels.{root-has}
 use Rattle.theory.specs.Tree as T
 use Rattle.theory.specs.Tree.{Node}
 use Rattle.theory.specs.Runs as U
+use Rattle.protocol.specs.Listing.{asSet}
 use Rattle.protocol.specs.Nodes.{read, internal, inner}
 use Rattle.protocol.specs.Detection.{resolveRoot}
 use Rattle.protocol.specs.Rounds.{Board, rootOnly}
 use Rattle.protocol.specs.Session.{Adversary, Setting, at, keeper, Sound}
 use Rattle.protocol.proofs.Nodes.{inner-has}
 use Rattle.protocol.proofs.Bounds.{root-small}
-use Rattle.agreement.proofs.Instance.{inst, node-mem, node-level, resolve-inst, node-size, listOf}
+use Rattle.agreement.proofs.Instance.{inst, node-mem, node-level, resolve-inst, node-size, boardsOf, listOf}
 use Rattle.agreement.proofs.RuleC.{convert-cells}
 use Rattle.agreement.proofs.Delivery.{healthy-keeper}
 use Rattle.protocol.proofs.Judgement.{plan-default}
@@ -102,7 +103,7 @@ module _ (s : Setting) (a : Adversary) (sound : Sound s) where
       let level = node-level plan N in
       (subst (λ x. List·Memᴰ α (inner plan i x)) size (inner-has plan i (length α) α (node-mem plan N) inn), omega arith, size)
 
-  pub run : (t : ℕ) → t < runs plan .0 → U.Run (inst plan) (listOf F) (cells t) (lists t) (mids t) (lists (suc t))
+  pub run : (t : ℕ) → t < runs plan .0 → U.Run (inst plan) (boardsOf F) (cells t) (lists t) (mids t) (lists (suc t))
   run t lt = record {
     flow = flow s a sound (last-step t) (in-time t lt) (inv s a sound (last-step t) (in-time t lt)) (at-end t lt);
     mask = λ {p = i} {r} {k} {α} H N inn lr out on.
@@ -112,13 +113,13 @@ module _ (s : Setting) (a : Adversary) (sound : Sound s) where
     mid-sound = λ {p = i} H.
         let ki = healthy-keeper s a sound i H in
         let I = inv s a sound (last-step t) (in-time t lt) in
-        subst (λ x. T.Sub (plan .n) (listOf (x .list)) (listOf F)) (sym (scan-is s a sound (last-step t) (in-time t lt) I i ki))
+        subst (λ x. T.Sub (plan .n) (listOf (x .list)) (boardsOf F)) (sym (scan-is s a sound (last-step t) (in-time t lt) I i ki))
         (scan-lists s a sound (last-step t) (in-time t lt) I i ki);
     end-sound = λ {p = i} H. lists-within s a sound (suc (last-step t)) i (in-time t lt) (healthy-keeper s a sound i H);
     grows = λ {p = i} H r lr on.
         let ki = healthy-keeper s a sound i H in
         let far = room-before t lt in
-        subst (λ x. member r (at s a x i .rec .list) ≡ true) (let z : first-step t + (suc (last-step t) - first-step t) ≡ suc (last-step t) = omega arith in z)
+        subst (λ x. member r (asSet (at s a x i .rec .list)) ≡ true) (let z : first-step t + (suc (last-step t) - first-step t) ≡ suc (last-step t) = omega arith in z)
         (lists-grow s a sound i ki (suc (last-step t) - first-step t) (first-step t) (let h = in-time t lt in omega arith) r on);
     rule-g = λ {p = i} {r} {k} {α} H N inn nd u.
         let ki = healthy-keeper s a sound i H in
@@ -149,7 +150,7 @@ module _ (s : Setting) (a : Adversary) (sound : Sound s) where
     root-value =
         subst (λ x. x < plan .span) (resolved t i) (root-small plan (plan-default plan (sound .accepted)) i (scan s a sound (last-step t) i .cells))
 
-  pub session : U.Session (inst plan) (listOf F) (runs plan .0) (s .word) cells lists mids
+  pub session : U.Session (inst plan) (boardsOf F) (runs plan .0) (s .word) cells lists mids
   session = record {
     run = run;
     dealt = λ some f i H _.

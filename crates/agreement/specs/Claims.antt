@@ -3,12 +3,14 @@ use Prim.Native.Nat.{ℕ, _+_, _-_, _*_, _≤_}
 use mathlib.Core.Path.{_≡_}
 use mathlib.Core.Logic.{_≢_}
 use mathlib.Core.Bool.{true, false}
+use mathlib.Core.List.{List}
 use lib.ListN.{getD}
 use Rattle.sets.specs.Search.{count}
 use Rattle.sets.specs.Sets.{member, within}
 use Rattle.heights.specs.Levels.{depthOf, isCut}
 use Rattle.schedule.specs.Schedule.{rounds, runs, steps, step}
 use Rattle.tree.specs.Cells.{blank}
+use Rattle.protocol.specs.declared.records.Slot.{Slot}
 use Rattle.protocol.specs.Listing.{asSet}
 use Rattle.protocol.specs.Rounds.{Board}
 use Rattle.protocol.specs.Session.{Adversary, Setting, at, keeper, Sound}
@@ -23,7 +25,7 @@ unfoldable pub rootAfter : Setting → Adversary → ℕ → ℕ → ℕ
 rootAfter s a t i = getD (ended s a t i .cells) 0 blank
 
 -- Board i's list then.
-unfoldable pub listEnded : Setting → Adversary → ℕ → ℕ → ℕ
+unfoldable pub listEnded : Setting → Adversary → ℕ → ℕ → List Slot
 listEnded s a t i = ended s a t i .rec .list
 
 pub record SessionAgreement (s : Setting) (a : Adversary) : Type 0 where

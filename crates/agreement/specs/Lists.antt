@@ -15,6 +15,7 @@ use Rattle.refusals.specs.Outcome.{Outcome, taken}
 use Rattle.heights.specs.Levels.{depthOf, isCut}
 use Rattle.schedule.specs.Schedule.{rounds, steps}
 use Rattle.tree.specs.Cells.{blank}
+use Rattle.protocol.specs.declared.records.Slot.{Slot}
 use Rattle.protocol.specs.Listing.{asSet}
 use Rattle.protocol.specs.Nodes.{due}
 use Rattle.protocol.specs.Rounds.{Board}
@@ -157,15 +158,15 @@ pub record EndsRun (s : Setting) (t i : ℕ) (before calls : List Call) : Type 0
 unfoldable pub root : Setting → ℕ → List Call → ℕ
 root s i before = getD (closing (state s before i) .board .cells) 0 blank
 
-unfoldable pub list : Setting → ℕ → List Call → ℕ
+unfoldable pub list : Setting → ℕ → List Call → List Slot
 list s i before = closing (state s before i) .board .rec .list
 
 -- Does board r stand on the list of every board outside F that keeps cells? `lists` has each board's list.
-unfoldable pub onEvery : Setting → (ℕ → ℕ) → ℕ → Bool
+unfoldable pub onEvery : Setting → (ℕ → List Slot) → ℕ → Bool
 onEvery s lists r = not (any (λ i. keeper s i && not (member r (asSet (lists i)))) (s .plan .n))
 
 -- Board i's list after the calls.
-unfoldable pub listAfter : Setting → List Call → ℕ → ℕ
+unfoldable pub listAfter : Setting → List Call → ℕ → List Slot
 listAfter s calls i = state s calls i .rec .list
 
 -- The list, as a set, of a board i outside F. 01, of the dealer: "its list is empty".

@@ -18,11 +18,14 @@ use Rattle.tree.specs.Labels.{Label}
 use Rattle.tree.specs.Places.{cellCount}
 use Rattle.tree.specs.Cells.{store}
 use Rattle.protocol.specs.declared.records.Record.{Record}
-use Rattle.protocol.specs.Listing.{asSet}
+use Rattle.protocol.specs.declared.records.Entry.{Entry}
+use Rattle.protocol.specs.declared.records.Entry.the-variants as Entry
+use Rattle.protocol.specs.declared.records.Slot.{Slot}
+use Rattle.protocol.specs.Listing.{entryAt, levelOf, asSet}
 use Rattle.protocol.specs.Records.{marked, advanced, runEnded}
 use Rattle.protocol.specs.Detection.{Scan}
 use Rattle.protocol.specs.Rounds.{Board, boardWith, fill, counted, receive, fillMissing, copyOwn, gather, rootOnly, cleared, nextRound, convert, close}
-use Rattle.protocol.specs.Calls.{isTaken, judgeNumber, judgeOther, judgeBoard, judgeCells, goodPlan, goodNumber, goodOther, goodPosition, goodMarks, goodDecision, goodRecord, judgeRecord, judgeDecided, judgeOpen, freshRecord, voidRecord, judgeBeginning, beginning, dealing, judgeReceiving, taking, receiving, frameOf, wireOf, judgeSending, sending, closedValues, closing, deciding}
+use Rattle.protocol.specs.Calls.{isTaken, judgeNumber, judgeOther, judgeBoard, judgeCells, goodPlan, goodNumber, goodOther, goodPosition, goodMarks, goodEntry, goodEntries, goodDecision, goodRecord, judgeRecord, judgeDecided, judgeOpen, freshRecord, voidRecord, judgeBeginning, beginning, dealing, judgeReceiving, taking, receiving, frameOf, wireOf, judgeSending, sending, closedValues, closing, deciding}
 use Rattle.alike.specs.Alike.{Alike, onPlan, boardOn, resultOn, begunOn, AlikeCalls}
 use Rattle.alike.proofs.Trees.{rounds-alike, runs-alike, has-round-alike, default-alike, value-alike, inner-alike, sent-alike, due-alike, frame-alike}
 use Rattle.alike.proofs.Detections.{root-alike, detect-all-g-alike, levels-alike}
@@ -50,13 +53,22 @@ module _ (p q : Plan) (a : Alike p q) where
   unfolding judgeCells
   cells-alike cells = λ j. cond (ltb (length cells) (cellCount (a .n j))) (refused 11) (taken [])
 
+  entry-alike : (e : Entry) → goodEntry p e ≡ goodEntry q e
+  unfolding goodEntry
+  entry-alike Entry.Nothing = refl
+  entry-alike (Entry.Listed t k rule) = λ j. has-round-alike p q a t k j && (ltb 0 (levelOf rule) && ltb (levelOf rule) (rounds-alike p q a j .0))
+
+  entries-alike : (r : Record) → goodEntries (onPlan p r) ≡ goodEntries (onPlan q r)
+  unfolding goodEntries
+  entries-alike r = λ j. not (any (λ i. not (entry-alike (entryAt (r .list) i) j)) 7)
+
   good-alike : (r : Record) → goodRecord (onPlan p r) ≡ goodRecord (onPlan q r)
   unfolding goodRecord goodPlan goodNumber goodOther goodPosition goodMarks goodDecision
   good-alike r = λ j.
       (isTaken (a .judged j) && (isTaken (number-alike (r .board) j) && isTaken (other-alike (r .board) j)))
       && (has-round-alike p q a (r .run) (r .round) j
       && ((within (asSet (r .list)) (boards (a .n j)) && within (r .marks) (boards (a .n j)))
-      && (not (r .decided) || ltb (r .decision) (a .span j))))
+      && (entries-alike r j && (not (r .decided) || ltb (r .decision) (a .span j)))))
 
   record-alike : (r : Record) → judgeRecord (onPlan p r) ≡ judgeRecord (onPlan q r)
   unfolding judgeRecord
@@ -105,7 +117,7 @@ module _ (p q : Plan) (a : Alike p q) where
       let αs = sent-alike p q a s (r .board) (r .round) j in
       boardWith (marked s (onPlan q r)) (fill-alike s αs (counted (r .list) s αs vs) (b .cells) j))
 
-  ended-alike : (r : Record) (list root : ℕ) → runEnded (onPlan q r) list root ≡ onPlan q (runEnded (onPlan p r) list root)
+  ended-alike : (r : Record) (list : List Slot) (root : ℕ) → runEnded (onPlan q r) list root ≡ onPlan q (runEnded (onPlan p r) list root)
   unfolding runEnded
   ended-alike r list root = sym (λ j.
       let last = eqb (r .run .0) (runs-alike p q a j .0) in

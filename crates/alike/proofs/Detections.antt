@@ -18,6 +18,7 @@ use Rattle.schedule.specs.declared.rounds.Round.{Round}
 use Rattle.tree.specs.Labels.{Label, occurs, last}
 use Rattle.tree.specs.Cells.{store}
 use Rattle.protocol.specs.declared.records.Rule.the-variants as Rule
+use Rattle.protocol.specs.declared.records.Slot.{Slot}
 use Rattle.protocol.specs.Listing.{join, asSet}
 use Rattle.protocol.specs.Detection.{vote, resolve, resolveRoot, explained, byCell, byResolving, passes, Scan, maskBoard, detectG, detectAllG, detectC, detectAllC, detectLevels}
 use Rattle.alike.specs.Alike.{Alike}
@@ -41,12 +42,12 @@ module _ (p q : Plan) (a : Alike p q) where
   unfolding resolveRoot
   root-alike i cells = λ j. Option·getD (resolve-alike i cells (rounds-alike p q a j .0 - 1) (a .dealer j ∷ []) j) (default-alike p q a j)
 
-  explained-alike : (α : Label) (f : ℕ → Option ℕ) (list : ℕ) → explained p α f list ≡ explained q α f list
+  explained-alike : (α : Label) (f : ℕ → Option ℕ) (list : List Slot) → explained p α f list ≡ explained q α f list
   unfolding explained
   explained-alike α f list = λ j.
       any (λ v. a .tolerate (setOf (λ c. (not (occurs c α) && not (same (f c) (some v))) || member c (asSet list)) (a .n j)) j) (a .span j)
 
-  passes-alike : (α : Label) (f : ℕ → Option ℕ) (list : ℕ) → passes p α f list ≡ passes q α f list
+  passes-alike : (α : Label) (f : ℕ → Option ℕ) (list : List Slot) → passes p α f list ≡ passes q α f list
   unfolding passes
   passes-alike α f list = λ j. member (last α) (asSet list) || explained-alike α f list j
 
@@ -69,7 +70,7 @@ module _ (p q : Plan) (a : Alike p q) where
     unfolding detectG
     detect-g-alike α s = λ j.
         let joined : Scan = record {
-          list = join (last α) t k Rule.G (length α) (s .list);
+          list = join (last α) t k (Rule.G (length α)) (s .list);
           cells = mask-alike (last α) (nodes-alike p q a i (suc (length α)) j) (s .cells) j;
         } in
         cond (passes-alike α (by-cell-alike (s .cells) α j) (s .list) j) s joined
@@ -79,17 +80,17 @@ module _ (p q : Plan) (a : Alike p q) where
     detect-all-g-alike [] s = refl
     detect-all-g-alike (α ∷ αs) s = λ j. detect-all-g-alike αs (detect-g-alike α s j) j
 
-    detect-c-alike : (cells : List ℕ) (α : Label) (list : ℕ) → detectC p i t k cells α list ≡ detectC q i t k cells α list
+    detect-c-alike : (cells : List ℕ) (α : Label) (list : List Slot) → detectC p i t k cells α list ≡ detectC q i t k cells α list
     unfolding detectC
     detect-c-alike cells α list = λ j.
-        cond (passes-alike α (by-resolving-alike i cells α j) list j) list (join (last α) t k Rule.C (length α) list)
+        cond (passes-alike α (by-resolving-alike i cells α j) list j) list (join (last α) t k (Rule.C (length α)) list)
 
-    detect-all-c-alike : (cells : List ℕ) (αs : List Label) (list : ℕ) → detectAllC p i t k cells αs list ≡ detectAllC q i t k cells αs list
+    detect-all-c-alike : (cells : List ℕ) (αs : List Label) (list : List Slot) → detectAllC p i t k cells αs list ≡ detectAllC q i t k cells αs list
     unfolding detectAllC
     detect-all-c-alike cells [] list = refl
     detect-all-c-alike cells (α ∷ αs) list = λ j. detect-all-c-alike cells αs (detect-c-alike cells α list j) j
 
-    pub levels-alike : (cells : List ℕ) (level list : ℕ) → detectLevels p i t k cells level list ≡ detectLevels q i t k cells level list
+    pub levels-alike : (cells : List ℕ) (level : ℕ) (list : List Slot) → detectLevels p i t k cells level list ≡ detectLevels q i t k cells level list
     unfolding detectLevels
     levels-alike cells zero list = refl
     levels-alike cells (suc level) list = λ j. levels-alike cells level (detect-all-c-alike cells (inner-alike p q a i (suc level) j) list j) j

@@ -3,6 +3,7 @@ use clearing::cells::clear;
 use codec::value::Value;
 use judging::judging::judge_board;
 use judging::judging::judge_cells;
+use listing::listing::no_entries;
 use plan::plan::Plan;
 use protocol::answers::Begun;
 use protocol::records::Record;
@@ -21,12 +22,13 @@ fn fresh(plan: Plan, board: u8) -> Record
 {
     let run = Run(1);
     let round = Round(1);
+    let list = no_entries();
     Record {
         plan: plan,
         board: board,
         run: run,
         round: round,
-        list: 0,
+        list: list,
         marks: 0,
         decided: false,
         decision: 0,
@@ -40,12 +42,13 @@ pub fn void() -> Record
     let plan = Plan::void();
     let run = Run(0);
     let round = Round(0);
+    let list = no_entries();
     Record {
         plan: plan,
         board: 0,
         run: run,
         round: round,
-        list: 0,
+        list: list,
         marks: 0,
         decided: false,
         decision: 0,

@@ -11,7 +11,8 @@ use Rattle.sets.proofs.Tests.{or-left}
 use Rattle.plan.specs.declared.plan.Plan.{Plan}
 use Rattle.tree.specs.Places.{outsideBelow}
 use Rattle.tree.proofs.Boards.{outside-zero, outside-more, outside-skip}
-use Rattle.protocol.specs.declared.records.Rule.the-variants as Rule
+use Rattle.protocol.specs.declared.records.Slot.{Slot}
+use Rattle.protocol.specs.Listing.{asSet}
 use Rattle.voting.specs.Worth.{worth, childTable}
 use Rattle.voting.specs.Tables.{explainedBy}
 use Rattle.voting.proofs.Table.{table-zero, table-more, table-skip}
@@ -47,14 +48,14 @@ module _ {n s from : ℕ} {cells : List ℕ} where
   reads-end {c} r h = r .values-are ∙ ap (childTable (standingFrom cells from s) s) (let z : c ≡ n = omega (arith, r .inside) in z)
 
 -- The rule at a node, as a number.
-module _ (p : Plan) (cells : List ℕ) (from x list : ℕ) where
-  pub passes-listed : member (x / 128 % 8) list ≡ true → true ≡ passesAt p cells from x list
+module _ (p : Plan) (cells : List ℕ) (from x : ℕ) (list : List Slot) where
+  pub passes-listed : member (x / 128 % 8) (asSet list) ≡ true → true ≡ passesAt p cells from x list
   unfolding passesAt
-  passes-listed e = sym (or-left (member (x / 128 % 8) list) _ e)
+  passes-listed e = sym (or-left (member (x / 128 % 8) (asSet list)) _ e)
 
-  pub passes-explained : (s : ℕ) (values : List ℕ) → member (x / 128 % 8) list ≡ false → s ≡ x % 128 → values ≡ childTable (standingFrom cells from s) s (p .n)
-      → explainedBy p s values list ≡ passesAt p cells from x list
+  pub passes-explained : (s : ℕ) (values : List ℕ) → member (x / 128 % 8) (asSet list) ≡ false → s ≡ x % 128 → values ≡ childTable (standingFrom cells from s) s (p .n)
+      → explainedBy p s values (asSet list) ≡ passesAt p cells from x list
   unfolding passesAt
   passes-explained s values out e f =
-      let g : ℕ → Bool = λ b. explainedBy p b (childTable (standingFrom cells from b) b (p .n)) list in
-      ap (λ t. explainedBy p s t list) f ∙ ap g e ∙ sym (ap (λ b. b || g (x % 128)) out)
+      let g : ℕ → Bool = λ b. explainedBy p b (childTable (standingFrom cells from b) b (p .n)) (asSet list) in
+      ap (λ t. explainedBy p s t (asSet list)) f ∙ ap g e ∙ sym (ap (λ b. b || g (x % 128)) out)

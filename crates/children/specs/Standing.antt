@@ -10,6 +10,7 @@ use Rattle.sets.specs.Sets.{member}
 use Rattle.plan.specs.declared.plan.Plan.{Plan}
 use Rattle.tables.specs.Tabled.{Tabled}
 use Rattle.tree.specs.Places.{outsideBelow}
+use Rattle.protocol.specs.declared.records.Slot.{Slot}
 use Rattle.protocol.specs.Listing.{asSet}
 use Rattle.voting.specs.Worth.{childTable}
 use Rattle.voting.specs.Tables.{explainedBy}
@@ -28,6 +29,6 @@ pub record Explainable (p : Plan) (holders : List ℕ) (from x : ℕ) (cells : L
 abbrev pub standingFrom : List ℕ → ℕ → ℕ → ℕ → Option ℕ
 standingFrom cells from s c = some (getD cells (from + outsideBelow s c) 0)
 
-unfoldable pub passesAt : Plan → List ℕ → ℕ → ℕ → ℕ → Bool
+unfoldable pub passesAt : Plan → List ℕ → ℕ → ℕ → List Slot → Bool
 passesAt p cells from x list =
     member (x / 128 % 8) (asSet list) || explainedBy p (x % 128) (childTable (standingFrom cells from (x % 128)) (x % 128) (p .n)) (asSet list)

@@ -5,6 +5,7 @@ use internal::node::boards_of;
 use internal::node::last_of;
 use listing::listing::as_set;
 use plan::plan::Plan;
+use protocol::records::Slot;
 use sets::boards::member;
 ghost use mathlib.Core.Path.{_≡_};
 ghost use Rattle.voting.specs.Worth.{childTable};
@@ -35,7 +36,7 @@ pub fn passes_at(
     holders: &[u8],
     from: usize,
     node: u32,
-    list: u8,
+    list: [Slot; 7],
     cells: &[Value],
 ) -> bool
     requires { ⌜ Explainable plan (now holders) from node (now cells) ⌝ }

@@ -23,23 +23,24 @@ fn close_round(r: Record, cells: &mut [Value]) -> Record
     ensures { λ x. ⌜ boardWith x (now (cells .exit)) ≡ close (boardWith r (now (cells .entry))) ⌝ }
 {
     let holders = table_of(r.plan);
-    let list = gather_round(
+    let list = r.list;
+    let found = gather_round(
         r.plan,
         &holders,
         r.board,
         r.run,
         r.round,
         r.marks,
-        r.list,
+        list,
         cells,
     );
     let end = rounds(r.plan);
     let top = end.0;
     let k = r.round.0;
     if k < top {
-        return next_round(r, list);
+        return next_round(r, found);
     }
-    convert_round(r, &holders, list, cells)
+    convert_round(r, &holders, found, cells)
 }
 
 // The answer to a closing that is taken.

@@ -21,7 +21,8 @@ use Rattle.tree.proofs.Labels.{label-below}
 use Rattle.tree.proofs.Masks.{mask-member}
 use Rattle.protocol.specs.Nodes.{nodes, inner}
 use Rattle.protocol.specs.declared.records.Rule.the-variants as Rule
-use Rattle.protocol.specs.Listing.{join}
+use Rattle.protocol.specs.declared.records.Slot.{Slot}
+use Rattle.protocol.specs.Listing.{join, asSet}
 use Rattle.protocol.specs.Detection.{byResolving, passes, detectC, detectAllC, detectLevels}
 use Rattle.protocol.proofs.Nodes.{no-node, node-root, inner-inv, node-inv, node-label, node-length, internal-tol, internal-above}
 use Rattle.voting.specs.Worth.{worth, childTable}
@@ -72,27 +73,27 @@ module _ (p : Plan) (i : ℕ) (cells : List ℕ) where
           settled-done p i ld (under-trans u (down t l o here)) (root-labelled p) cells r
 
       module _ (good : judged p .number ≡ 0) (m : p .span ≤ 255) where
-        passes-same : (k : ℕ) (α : Label) (list : ℕ) → List·Memᴰ α (inner p i k)
+        passes-same : (k : ℕ) (α : Label) (list : List Slot) → List·Memᴰ α (inner p i k)
             → passesBy p (settledAll p i cells) α list ≡ passes p α (byResolving p i cells α) list
         unfolding passesBy passes worth
         passes-same k α list w =
             let (v, t) = inner-inv p i k α w in
-            ap (λ x. member (last α) list || explainedBy p (mask α) x list)
+            ap (λ x. member (last α) (asSet list) || explainedBy p (mask α) x (asSet list))
             (table-worth (standing (p .n) (settledAll p i cells) α) (byResolving p i cells α) (mask α) (p .n)
             (λ c l o. child-done k α w c l (sym (mask-member c α) ∙ o)))
-            ∙ ap (λ x. member (last α) list || x)
+            ∙ ap (λ x. member (last α) (asSet list) || x)
             (sym (explained-table p α (byResolving p i cells α) list good m (internal-tol p i α t)
             (label-below (p .n) (p .dealer) k α ld (node-label p i k α v))))
 
-        detect-same : (run : Run) (round : Round) (k : ℕ) (αs : List Label) (list : ℕ) → ((α : Label) → List·Memᴰ α αs → List·Memᴰ α (inner p i k))
+        detect-same : (run : Run) (round : Round) (k : ℕ) (αs : List Label) (list : List Slot) → ((α : Label) → List·Memᴰ α αs → List·Memᴰ α (inner p i k))
             → detectBy p run round (settledAll p i cells) αs list ≡ detectAllC p i run round cells αs list
         unfolding detectBy detectAllC detectC
         detect-same run round k [] list h = refl
         detect-same run round k (α ∷ αs) list h =
-            ap (λ b. detectBy p run round (settledAll p i cells) αs (cond b list (join (last α) run round Rule.C (length α) list))) (passes-same k α list (h α (List·Memᴰ·head refl)))
+            ap (λ b. detectBy p run round (settledAll p i cells) αs (cond b list (join (last α) run round (Rule.C (length α)) list))) (passes-same k α list (h α (List·Memᴰ·head refl)))
             ∙ detect-same run round k αs _ (λ β w. h β (List·Memᴰ·tail w))
 
-        pub levels-same : (run : Run) (round : Round) (k list : ℕ) → levelsBy p i run round (settledAll p i cells) k list ≡ detectLevels p i run round cells k list
+        pub levels-same : (run : Run) (round : Round) (k : ℕ) (list : List Slot) → levelsBy p i run round (settledAll p i cells) k list ≡ detectLevels p i run round cells k list
         unfolding levelsBy detectLevels
         levels-same run round zero list = refl
         levels-same run round (suc k) list =
@@ -103,7 +104,7 @@ module _ {p : Plan} {holders : List ℕ} {i v : ℕ} {before after : List ℕ} (
   pub resolved-room : Convertible p holders i after
   resolved-room = same-room k (ap length (f .cells-are) ∙ all-length p i before)
 
-  pub converts : {run : Run} {round : Round} {list found : ℕ} → found ≡ levelsBy p i run round after (rounds p .0 - 1) list → Converts p i run round list v found before after
+  pub converts : {run : Run} {round : Round} {list found : List Slot} → found ≡ levelsBy p i run round after (rounds p .0 - 1) list → Converts p i run round list v found before after
   converts {run} {round} {list} e = record {
     root-is = f .root-is;
     list-is =

@@ -1,6 +1,7 @@
 // Closing round R converts: every node is resolved, and rule C runs over what the nodes resolved to.
 use codec::value::Value;
 use plan::plan::Plan;
+use protocol::records::Slot;
 use resolving::resolving::resolve_root;
 use rule_c::rule_c::detect_levels;
 use schedule::rounds::Round;
@@ -12,7 +13,7 @@ ghost use Rattle.conversion.specs.Contracts.{Converts};
 // The resolved root, and the list.
 pub struct Converted {
     pub root: Value,
-    pub list: u8,
+    pub list: [Slot; 7],
 }
 
 // The cells are left as resolving in place leaves them; the caller blanks all but the root.
@@ -22,7 +23,7 @@ pub fn convert_cells(
     board: u8,
     run: Run,
     round: Round,
-    list: u8,
+    list: [Slot; 7],
     cells: &mut [Value],
 ) -> Converted
     requires { ⌜ Convertible plan (now holders) board (now cells) ⌝ }

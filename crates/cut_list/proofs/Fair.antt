@@ -31,11 +31,13 @@ use Rattle.tree.specs.Places.{levelSize, levelStart, cellCount, ordinal, rank, 
 use Rattle.tree.specs.Cells.{blank, cellAt, store}
 use Rattle.plan.specs.Values.{default, value}
 use Rattle.protocol.specs.Nodes.{read, filter, internal, nodes, inner, carried, sent, due, frame}
-use Rattle.protocol.specs.Listing.{join}
+use Rattle.protocol.specs.declared.records.Rule.the-variants as Rule
+use Rattle.protocol.specs.declared.records.Entry.the-variants as Entry
+use Rattle.protocol.specs.Listing.{entryAt, hasEntry, levelOf, join, asSet}
 use Rattle.protocol.specs.Detection.{vote, resolve, resolveRoot, explained, byCell, byResolving, passes, maskBoard, detectG, detectAllG, detectC, detectAllC, detectLevels}
 use Rattle.protocol.specs.Records.{runEnded}
 use Rattle.protocol.specs.Rounds.{fill, counted, receive, fillMissing, copyOwn, gather, rootOnly, nextRound, convert, close}
-use Rattle.protocol.specs.Calls.{isTaken, judgeNumber, judgeOther, judgeBoard, judgeCells, goodPlan, goodNumber, goodOther, goodPosition, goodMarks, goodDecision, goodRecord, judgeRecord, judgeOpen, freshRecord, voidRecord, judgeBeginning, beginning, dealing, judgeReceiving, taking, receiving, frameOf, wireOf, judgeSending, sending, closedValues, closing, deciding}
+use Rattle.protocol.specs.Calls.{isTaken, judgeNumber, judgeOther, judgeBoard, judgeCells, goodPlan, goodNumber, goodOther, goodPosition, goodMarks, goodEntry, goodEntries, goodDecision, goodRecord, judgeRecord, judgeOpen, freshRecord, voidRecord, judgeBeginning, beginning, dealing, judgeReceiving, taking, receiving, frameOf, wireOf, judgeSending, sending, closedValues, closing, deciding}
 use Rattle.protocol.specs.Session.{begun, keeper, Sound}
 use Rattle.agreement.specs.Lists.{receives, closes, answers, after, caller, leaves, state, afterOne, Fair, EndsRun, root, listAfter, onEvery, Agreement}
 use Rattle.agreement.proofs.FairCheck.{everywhere, somewhere, alike, writes, hands, truthful, lacks, fairCall, fairCheck, carriesCall, carriesCheck, checked-fair}
@@ -57,11 +59,17 @@ pub record Computed : Type 0 where
   pub root0 : root cutSetting 0 (cutBefore 0) ≡ 1
   pub root2 : root cutSetting 2 (cutBefore 2) ≡ 0
   -- board 0 lists 1 and 5, board 2 lists 1, 3 and 5
-  pub list0 : listAfter cutSetting cutCalls 0 ≡ 34
-  pub list2 : listAfter cutSetting cutCalls 2 ≡ 42
+  pub list0 : asSet (listAfter cutSetting cutCalls 0) ≡ 34
+  pub list2 : asSet (listAfter cutSetting cutCalls 2) ≡ 42
+  -- board 0 by rule C as it closes run 1, at levels 1 and 2; board 2 by rule G in rounds 2, 4 and 3, at levels 1, 3 and 2
+  pub entry01 : entryAt (listAfter cutSetting cutCalls 0) 1 ≡ Entry.Listed (record { 0 = 1 }) (record { 0 = 4 }) (Rule.C 1)
+  pub entry05 : entryAt (listAfter cutSetting cutCalls 0) 5 ≡ Entry.Listed (record { 0 = 1 }) (record { 0 = 4 }) (Rule.C 2)
+  pub entry21 : entryAt (listAfter cutSetting cutCalls 2) 1 ≡ Entry.Listed (record { 0 = 1 }) (record { 0 = 2 }) (Rule.G 1)
+  pub entry23 : entryAt (listAfter cutSetting cutCalls 2) 3 ≡ Entry.Listed (record { 0 = 1 }) (record { 0 = 4 }) (Rule.G 3)
+  pub entry25 : entryAt (listAfter cutSetting cutCalls 2) 5 ≡ Entry.Listed (record { 0 = 1 }) (record { 0 = 3 }) (Rule.G 2)
 
 pub computed : Computed
-unfolding encode decode numberAt first any count member union insert within boards setOf size holder isSome tolerated strays covers thirdPlace secondPlace firstPlace covered listed largest height isCut rounds runs firstRound hasRound ceilDiv covering admitting andThen isDepth judgeSettings planning planOn judged occurs mask last childrenFrom children childrenOf levelSize levelStart cellCount ordinal rank place blank cellAt store default value read filter internal nodes inner carried sent due frame only same vote tabulate resolve resolveRoot explained byCell byResolving join passes maskBoard detectG detectAllG detectC detectAllC detectLevels fill counted receive fillMissing copyOwn gather rootOnly nextRound convert runEnded close isTaken judgeNumber judgeOther judgeBoard judgeCells goodPlan goodNumber goodOther goodPosition goodMarks goodDecision goodRecord judgeRecord judgeOpen freshRecord voidRecord judgeBeginning beginning dealing judgeReceiving taking receiving frameOf wireOf judgeSending sending closedValues closing deciding begun answers after caller keeper leaves state afterOne sameList everywhere somewhere alike writes hands truthful lacks fairCall fairCheck carriesCall carriesCheck root listAfter cutSetting cutCalls cutBefore takeCalls
+unfolding encode decode numberAt first any count member union insert within boards setOf size holder isSome tolerated strays covers thirdPlace secondPlace firstPlace covered listed largest height isCut rounds runs firstRound hasRound ceilDiv covering admitting andThen isDepth judgeSettings planning planOn judged occurs mask last childrenFrom children childrenOf levelSize levelStart cellCount ordinal rank place blank cellAt store default value read filter internal nodes inner carried sent due frame only same vote tabulate resolve resolveRoot explained byCell byResolving entryAt hasEntry levelOf join asSet passes maskBoard detectG detectAllG detectC detectAllC detectLevels fill counted receive fillMissing copyOwn gather rootOnly nextRound convert runEnded close isTaken judgeNumber judgeOther judgeBoard judgeCells goodPlan goodNumber goodOther goodPosition goodMarks goodEntry goodEntries goodDecision goodRecord judgeRecord judgeOpen freshRecord voidRecord judgeBeginning beginning dealing judgeReceiving taking receiving frameOf wireOf judgeSending sending closedValues closing deciding begun answers after caller keeper leaves state afterOne sameList everywhere somewhere alike writes hands truthful lacks fairCall fairCheck carriesCall carriesCheck root listAfter cutSetting cutCalls cutBefore takeCalls
 computed = record {
   accepted = refl;
   cut = refl;
@@ -74,6 +82,11 @@ computed = record {
   root2 = refl;
   list0 = refl;
   list2 = refl;
+  entry01 = refl;
+  entry05 = refl;
+  entry21 = refl;
+  entry23 = refl;
+  entry25 = refl;
 }
 
 -- Lent cells are long enough, whoever lent them.

@@ -3,6 +3,7 @@ use codec::value::Value;
 use levels::levels::level_start;
 use plan::plan::Plan;
 use protocol::limits::NODES;
+use protocol::records::Slot;
 use rule_g::rule_g::detect_at;
 use schedule::rounds::Round;
 use schedule::rounds::Run;
@@ -22,9 +23,9 @@ fn detect_list(
     run: Run,
     round: Round,
     nodes: &[u32],
-    list: u8,
+    list: [Slot; 7],
     cells: &mut [Value],
-) -> u8
+) -> [Slot; 7]
     requires { ⌜ Scans plan (now holders) board round (now nodes) (now cells) ⌝ }
     ensures { λ d. ⌜ record { list = d; cells = now (cells .exit) } ≡ detectAllG plan board run round (labelsOf plan (round .0 - 1) (now (nodes .entry))) (record { list = list; cells = now (cells .entry) }) ⌝ }
 {
@@ -32,7 +33,7 @@ fn detect_list(
     let mut grown = list;
     let mut i: usize = 0;
     while i < nodes.len() {
-        grown = detect_at(
+        let next = detect_at(
             plan,
             holders,
             board,
@@ -43,6 +44,7 @@ fn detect_list(
             grown,
             cells,
         );
+        grown = next;
         i += 1;
     }
     grown
@@ -55,9 +57,9 @@ pub fn detect_cells(
     board: u8,
     run: Run,
     round: Round,
-    list: u8,
+    list: [Slot; 7],
     cells: &mut [Value],
-) -> u8
+) -> [Slot; 7]
     requires { ⌜ Later plan (now holders) board round (now cells) ⌝ }
     ensures { λ d. ⌜ record { list = d; cells = now (cells .exit) } ≡ detectAllG plan board run round (inner plan board (round .0 - 1)) (record { list = list; cells = now (cells .entry) }) ⌝ }
 {

@@ -29,11 +29,11 @@ use Rattle.tree.specs.Labels.{occurs, mask, last}
 use Rattle.tree.specs.Places.{levelSize, levelStart, cellCount, ordinal, rank, place}
 use Rattle.tree.specs.Cells.{blank, cellAt, store}
 use Rattle.protocol.specs.Nodes.{read, filter, internal, nodes, inner, carried, sent, due, frame}
-use Rattle.protocol.specs.Listing.{join}
+use Rattle.protocol.specs.Listing.{noEntries, entryAt, hasEntry, levelOf, join, asSet}
 use Rattle.protocol.specs.Detection.{vote, resolve, resolveRoot, explained, byCell, byResolving, passes, maskBoard, detectG, detectAllG, detectC, detectAllC, detectLevels}
 use Rattle.protocol.specs.Records.{runEnded}
 use Rattle.protocol.specs.Rounds.{fill, counted, receive, fillMissing, copyOwn, gather, rootOnly, nextRound, convert, close}
-use Rattle.protocol.specs.Calls.{isTaken, judgeNumber, judgeOther, judgeBoard, judgeCells, goodPlan, goodNumber, goodOther, goodPosition, goodMarks, goodDecision, goodRecord, judgeRecord, judgeOpen, freshRecord, voidRecord, judgeBeginning, beginning, dealing, judgeReceiving, taking, receiving, frameOf, wireOf, judgeSending, sending, closedValues, closing, deciding}
+use Rattle.protocol.specs.Calls.{isTaken, judgeNumber, judgeOther, judgeBoard, judgeCells, goodPlan, goodNumber, goodOther, goodPosition, goodMarks, goodEntry, goodEntries, goodDecision, goodRecord, judgeRecord, judgeOpen, freshRecord, voidRecord, judgeBeginning, beginning, dealing, judgeReceiving, taking, receiving, frameOf, wireOf, judgeSending, sending, closedValues, closing, deciding}
 use Rattle.protocol.specs.Session.{begun, keeper, Sound}
 use Rattle.agreement.specs.Lists.{Agreement, answers, after, caller, leaves, state, afterOne, Fair, StrictlyFair}
 use Rattle.example.specs.Example.{exampleSetting, exampleAhead, exampleRest, exampleCalls, said, exampleAnswers}
@@ -60,14 +60,14 @@ pub record Computed : Type 0 where
   pub decided2 : state exampleSetting exampleCalls 2 .rec .decided ≡ true
   pub decision1 : state exampleSetting exampleCalls 1 .rec .decision ≡ 5
   pub decision2 : state exampleSetting exampleCalls 2 .rec .decision ≡ 5
-  pub list1 : state exampleSetting exampleCalls 1 .rec .list ≡ 0
-  pub list2 : state exampleSetting exampleCalls 2 .rec .list ≡ 0
+  pub list1 : state exampleSetting exampleCalls 1 .rec .list ≡ noEntries
+  pub list2 : state exampleSetting exampleCalls 2 .rec .list ≡ noEntries
   -- and leave the surplus cell alone
   pub cells1 : state exampleSetting exampleCalls 1 .cells ≡ 5 ∷ replicate 15 255
   pub cells2 : state exampleSetting exampleCalls 2 .cells ≡ (5 ∷ replicate 15 255) ++ (7 ∷ [])
 
 pub computed : Computed
-unfolding encode decode numberAt first any count member union insert within boards setOf size holder isSome tolerated strays covers thirdPlace secondPlace firstPlace covered listed largest height isCut rounds runs firstRound hasRound covering admitting andThen isDepth judgeSettings planning planOn judged occurs mask last levelSize levelStart cellCount ordinal rank place blank cellAt store default value read filter internal nodes inner carried sent due frame only same vote tabulate resolve resolveRoot explained byCell byResolving join passes maskBoard detectG detectAllG detectC detectAllC detectLevels fill counted receive fillMissing copyOwn gather rootOnly nextRound convert runEnded close isTaken judgeNumber judgeOther judgeBoard judgeCells goodPlan goodNumber goodOther goodPosition goodMarks goodDecision goodRecord judgeRecord judgeOpen freshRecord voidRecord judgeBeginning beginning dealing judgeReceiving taking receiving frameOf wireOf judgeSending sending closedValues closing deciding begun answers after caller keeper leaves state afterOne sameList exampleSetting exampleAhead exampleRest exampleCalls said everywhere somewhere alike writes hands truthful lacks fairCall fairCheck carriesCall carriesCheck exampleAnswers
+unfolding encode decode numberAt first any count member union insert within boards setOf size holder isSome tolerated strays covers thirdPlace secondPlace firstPlace covered listed largest height isCut rounds runs firstRound hasRound covering admitting andThen isDepth judgeSettings planning planOn judged occurs mask last levelSize levelStart cellCount ordinal rank place blank cellAt store default value read filter internal nodes inner carried sent due frame only same vote tabulate resolve resolveRoot explained byCell byResolving entryAt hasEntry levelOf join asSet passes maskBoard detectG detectAllG detectC detectAllC detectLevels fill counted receive fillMissing copyOwn gather rootOnly nextRound convert runEnded close isTaken judgeNumber judgeOther judgeBoard judgeCells goodPlan goodNumber goodOther goodPosition goodMarks goodEntry goodEntries goodDecision goodRecord judgeRecord judgeOpen freshRecord voidRecord judgeBeginning beginning dealing judgeReceiving taking receiving frameOf wireOf judgeSending sending closedValues closing deciding begun answers after caller keeper leaves state afterOne sameList exampleSetting exampleAhead exampleRest exampleCalls said everywhere somewhere alike writes hands truthful lacks fairCall fairCheck carriesCall carriesCheck exampleAnswers
 computed = record {
   accepted = refl;
   tolerable = refl;

@@ -13,13 +13,15 @@ use Rattle.plan.specs.declared.plan.Plan.{Plan}
 use Rattle.plan.specs.Values.{default, value}
 use Rattle.refusals.specs.Outcome.{taken, refused}
 use Rattle.tree.specs.Labels.{Label}
+use Rattle.protocol.specs.declared.records.Slot.{Slot}
+use Rattle.protocol.specs.Listing.{asSet}
 use Rattle.protocol.specs.Rounds.{fill, counted}
 use Rattle.protocol.specs.Calls.{isTaken}
 use Rattle.frames.specs.Nodes.{entry}
 use Rattle.frames.proofs.Strokes.{fill-word, counted-all, counted-misfit, counted-listed}
 use Rattle.first_round.specs.Takes.{Takes}
 
-module _ (p : Plan) (q list marks : ℕ) (isDue : Bool) (αs : List Label) (f before : List ℕ) where
+module _ (p : Plan) (q : ℕ) (list : List Slot) (marks : ℕ) (isDue : Bool) (αs : List Label) (f before : List ℕ) where
   pub takes-none : isDue ≡ false → Takes p q list marks isDue αs f before (refused 14) before
   unfolding isTaken
   takes-none e = record { answer = rw e refl; cells = refl }
@@ -34,8 +36,8 @@ module _ (p : Plan) (q list marks : ℕ) (isDue : Bool) (αs : List Label) (f be
   takes-new e m = record { answer = rw (e, m) refl; cells = refl }
 
 -- A frame of one value.
-module _ (p : Plan) (list q : ℕ) (f : List ℕ) where
-  pub word-counts : length f ≡ 1 → member q list ≡ false → entry p (counted list q ([] ∷ []) f) 0 ≡ value p (getD f 0 0)
+module _ (p : Plan) (list : List Slot) (q : ℕ) (f : List ℕ) where
+  pub word-counts : length f ≡ 1 → member q (asSet list) ≡ false → entry p (counted list q ([] ∷ []) f) 0 ≡ value p (getD f 0 0)
   unfolding entry
   word-counts e m = rw (counted-all list q ([] ∷ []) f e m, lt-ltb 0 (length f) (omega arith)) refl
 
@@ -43,7 +45,7 @@ module _ (p : Plan) (list q : ℕ) (f : List ℕ) where
   unfolding entry
   word-misfit ne = rw (counted-misfit list q ([] ∷ []) f ne) refl
 
-  pub word-listed : member q list ≡ true → entry p (counted list q ([] ∷ []) f) 0 ≡ default p
+  pub word-listed : member q (asSet list) ≡ true → entry p (counted list q ([] ∷ []) f) 0 ≡ default p
   unfolding entry
   word-listed m = rw (counted-listed list q ([] ∷ []) f m) refl
 

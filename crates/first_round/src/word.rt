@@ -4,6 +4,7 @@ use codec::value::value_at;
 use codec::value::value_count;
 use listing::listing::as_set;
 use plan::plan::Plan;
+use protocol::records::Slot;
 use refusals::refusal::Refusal;
 use refusals::refusal::Verdict;
 use sets::boards::member;
@@ -17,7 +18,7 @@ ghost use Rattle.frames.specs.Nodes.{First, entry};
 ghost use Rattle.first_round.specs.Takes.{Takes};
 
 // The dealer's value; the default for a frame of another length, or of a listed dealer.
-fn word_of(plan: Plan, list: u8, q: u8, frame: &[u8]) -> Value
+fn word_of(plan: Plan, list: [Slot; 7], q: u8, frame: &[u8]) -> Value
     ensures { λ v. ⌜ v ≡ entry plan (counted list q ([] ∷ []) (decode (now (frame .entry)))) 0 ⌝ }
 {
     if value_count(frame) == 1 && !member(as_set(list), q) {
@@ -29,7 +30,7 @@ fn word_of(plan: Plan, list: u8, q: u8, frame: &[u8]) -> Value
 // Round 1, the dealer's frame: 14, 15, then it is stored at the root.
 pub fn take_word(
     plan: Plan,
-    list: u8,
+    list: [Slot; 7],
     marks: u8,
     q: u8,
     frame: &[u8],

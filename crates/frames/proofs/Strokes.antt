@@ -21,6 +21,8 @@ use Rattle.tree.specs.Labels.{Label}
 use Rattle.tree.specs.Places.{place}
 use Rattle.tree.specs.Cells.{store}
 use Rattle.tree.proofs.Places.{root-place}
+use Rattle.protocol.specs.declared.records.Slot.{Slot}
+use Rattle.protocol.specs.Listing.{asSet}
 use Rattle.protocol.specs.Nodes.{read}
 use Rattle.protocol.specs.Rounds.{fill, counted}
 use Rattle.frames.specs.Nodes.{entry}
@@ -63,8 +65,8 @@ write-step p cells out αs u v l e =
     ∙ ap (λ k. sofar p cells αs k out) (let z : suc u ≡ u + 1 = omega arith in z)
 
 -- What a frame counts as.
-module _ (list q : ℕ) (αs : List Label) (f : List ℕ) where
-  pub counted-all : length f ≡ length αs → member q list ≡ false → counted list q αs f ≡ f
+module _ (list : List Slot) (q : ℕ) (αs : List Label) (f : List ℕ) where
+  pub counted-all : length f ≡ length αs → member q (asSet list) ≡ false → counted list q αs f ≡ f
   unfolding counted
   counted-all e m = rw (eq-eqb (length f) (length αs) e, m)
 
@@ -72,7 +74,7 @@ module _ (list q : ℕ) (αs : List Label) (f : List ℕ) where
   unfolding counted
   counted-misfit ne = rw (ne-eqb (length f) (length αs) ne)
 
-  pub counted-listed : member q list ≡ true → counted list q αs f ≡ []
+  pub counted-listed : member q (asSet list) ≡ true → counted list q αs f ≡ []
   unfolding counted
   counted-listed m = cases (eqb (length f) (length αs)) (λ e. rw (e, m)) (λ e. rw e)
 

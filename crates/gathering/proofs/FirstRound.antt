@@ -15,6 +15,7 @@ use Rattle.schedule.specs.declared.rounds.Run.{Run}
 use Rattle.schedule.specs.declared.rounds.Round.{Round}
 use Rattle.plan.specs.declared.plan.Plan.{Plan}
 use Rattle.plan.specs.Values.{default}
+use Rattle.protocol.specs.declared.records.Slot.{Slot}
 use Rattle.protocol.specs.Nodes.{filter, nodes, inner, sent}
 use Rattle.protocol.specs.Detection.{Scan, detectAllG}
 use Rattle.protocol.specs.Rounds.{fill, fillMissing, copyOwn}
@@ -55,12 +56,12 @@ module _ {p : Plan} {holders : List ℕ} {i : ℕ} {k : Round} (s : Standing p h
   own-none = rw (eq-eqb (k .0) 1 one, ne-eqb i (p .dealer) (s .other))
 
   -- Rule G does not run in round 1.
-  gathered-word : (run : Run) (list : ℕ) → gathered p i run k marks list cells ≡ record { list = list; cells = rooted }
+  gathered-word : (run : Run) (list : List Slot) → gathered p i run k marks list cells ≡ record { list = list; cells = rooted }
   unfolding gathered inner nodes filter detectAllG copyOwn fill
   gathered-word run list =
       rw ((let z : k .0 - 1 ≡ 0 = omega arith in z), own-none, above (p .n) (s .dealer-below) (omega arith)) refl
 
-  pub gathers-word : (run : Run) (list : ℕ) (after : List ℕ) → after ≡ rooted → Gathers p i run k marks list list cells after
+  pub gathers-word : (run : Run) (list : List Slot) (after : List ℕ) → after ≡ rooted → Gathers p i run k marks list list cells after
   gathers-word run list after e = record {
     list-is = sym (ap (λ (x : Scan). x .list) (gathered-word run list));
     cells-are = e ∙ sym (ap (λ (x : Scan). x .cells) (gathered-word run list));

@@ -5,15 +5,16 @@ use mathlib.Core.List.{List}
 use Rattle.plan.specs.declared.plan.Plan.{Plan}
 use Rattle.schedule.specs.declared.rounds.Run.{Run}
 use Rattle.schedule.specs.declared.rounds.Round.{Round}
+use Rattle.protocol.specs.declared.records.Slot.{Slot}
 use Rattle.protocol.specs.Nodes.{inner}
 use Rattle.protocol.specs.Detection.{Scan, detectAllG}
 use Rattle.protocol.specs.Rounds.{fillMissing, copyOwn}
 
-unfoldable pub gathered : Plan → ℕ → Run → Round → ℕ → ℕ → List ℕ → Scan
+unfoldable pub gathered : Plan → ℕ → Run → Round → ℕ → List Slot → List ℕ → Scan
 gathered p i t k marks list cells =
     detectAllG p i t k (inner p i (k .0 - 1)) (record { list = list; cells = copyOwn p i k (fillMissing p i k marks (p .n) cells) })
 
 -- The list and the cells after it.
-pub record Gathers (p : Plan) (i : ℕ) (t : Run) (k : Round) (marks list found : ℕ) (before after : List ℕ) : Type 0 where
+pub record Gathers (p : Plan) (i : ℕ) (t : Run) (k : Round) (marks : ℕ) (list found : List Slot) (before after : List ℕ) : Type 0 where
   pub list-is : found ≡ gathered p i t k marks list before .list
   pub cells-are : after ≡ gathered p i t k marks list before .cells

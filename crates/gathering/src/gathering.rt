@@ -4,6 +4,7 @@ use copying::copying::copy_own;
 use detection::detecting::detect_cells;
 use filling::filling::fill_missing;
 use plan::plan::Plan;
+use protocol::records::Slot;
 use schedule::rounds::Round;
 use schedule::rounds::Run;
 use sets::boards::member;
@@ -35,9 +36,9 @@ fn gather_later(
     run: Run,
     round: Round,
     marks: u8,
-    list: u8,
+    list: [Slot; 7],
     cells: &mut [Value],
-) -> u8
+) -> [Slot; 7]
     requires { ⌜ Later plan (now holders) board round (now cells) ⌝ }
     ensures { λ d. ⌜ Gathers plan board run round marks list d (now (cells .entry)) (now (cells .exit)) ⌝ }
 {
@@ -54,9 +55,9 @@ pub fn gather_round(
     run: Run,
     round: Round,
     marks: u8,
-    list: u8,
+    list: [Slot; 7],
     cells: &mut [Value],
-) -> u8
+) -> [Slot; 7]
     requires { ⌜ AnyRound plan (now holders) board round (now cells) ⌝ }
     ensures { λ d. ⌜ Gathers plan board run round marks list d (now (cells .entry)) (now (cells .exit)) ⌝ }
 {

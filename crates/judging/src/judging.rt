@@ -1,13 +1,18 @@
 // What the calls judge before they do anything.
 use codec::value::Value;
+use entries::entries::are_good_entries;
 use levels::levels::cell_count;
 use listing::listing::as_set;
 use plan::plan::Plan;
-use positions::positions::has_round;
+use positions::positions::is_round;
 use protocol::records::Record;
 use refusals::refusal::Refusal;
 use refusals::refusal::Verdict;
 use refusals::refusal::and_then;
+use schedule::rounds::Round;
+use schedule::rounds::Run;
+use schedule::rounds::rounds;
+use schedule::rounds::runs;
 use sets::boards::all_boards;
 use sets::boards::within;
 ghost use mathlib.Core.Path.{_≡_};
@@ -20,6 +25,7 @@ ghost use Rattle.refusals.specs.Outcome.{taken, refused, verdict};
 ghost use Rattle.tree.specs.Places.{countWithin};
 ghost use Rattle.protocol.specs.Calls.{isTaken, judgeBoard, goodMarks, goodDecision, goodRecord, judgeRecord, judgeDecided, judgeOpen};
 ghost use Rattle.protocol.specs.Rounds.{boardWith};
+ghost use Rattle.entries.specs.Entries.{areGoodEntries};
 
 // The board's number: 9 and 10.
 pub fn judge_board(plan: Plan, board: u8) -> Verdict
@@ -55,19 +61,23 @@ fn is_accepted(v: Verdict) -> bool
     }
 }
 
-// The list, the marks and the decision of a record.
-fn has_good_fields(r: Record) -> bool
+// The list, the marks, the entries and the decision of a record, where the last run and the last round are these.
+fn has_good_fields(r: Record, last: Run, end: Round) -> bool
     requires { ⌜ r .plan .n ≤ 8 ⌝ }
-    ensures { λ b. ⌜ b ≡ (goodMarks r && goodDecision r) ⌝ }
+    ensures { λ b. ⌜ b ≡ (goodMarks r && (areGoodEntries last end (r .list) && goodDecision r)) ⌝ }
 {
     let all = all_boards(r.plan.n);
     let decided = r.decided;
     let decision = r.decision;
     let span = r.plan.span;
-    if !within(as_set(r.list), all) {
+    let list = r.list;
+    if !within(as_set(list), all) {
         return false;
     }
     if !within(r.marks, all) {
+        return false;
+    }
+    if !are_good_entries(last, end, list) {
         return false;
     }
     if decided {
@@ -86,10 +96,12 @@ fn is_good(r: Record) -> bool
     if !is_accepted(judge_board(r.plan, r.board)) {
         return false;
     }
-    if !has_round(r.plan, r.run, r.round) {
+    let last = runs(r.plan);
+    let end = rounds(r.plan);
+    if !is_round(last, end, r.run, r.round) {
         return false;
     }
-    has_good_fields(r)
+    has_good_fields(r, last, end)
 }
 
 // The record: 12.

@@ -40,7 +40,8 @@ fn main() {
         scatter(&mut cells);
         let closed = close(r, &mut cells);
         out[0] = closed.rec.decision;
-        out[1] = as_set(closed.rec.list);
+        let list = closed.rec.list;
+        out[1] = as_set(list);
         i += 1;
     }
     io::write_all(STDOUT_FILENO, &out);

@@ -1,28 +1,14 @@
 // One board's session in flight: board 1 of four, whose dealer, board 0, tells board 3 another value.
 use beginning::beginning::begin;
-use codec::value::Value;
 use deciding::deciding::decide;
-use flight::lent::close_lent;
+use flight::lent::close_own;
 use libc::STDOUT_FILENO;
 use listing::listing::as_set;
 use plan::plan::Plan;
 use protocol::answers::Decision;
-use protocol::records::Record;
 use receiving::receiving::receive;
 use sending::sending::send;
 use settings::settings::Settings;
-ghost use mathlib.Core.Path.{_≡_};
-ghost use Rattle.protocol.specs.Rounds.{boardWith};
-ghost use Rattle.protocol.specs.Calls.{closing};
-
-// Closes a round: the record is lent to the call.
-fn close_round(r: Record, cells: &mut [Value]) -> Record
-    ensures { λ x. ⌜ boardWith x (now (cells .exit)) ≡ closing (boardWith r (now (cells .entry))) .board ⌝ }
-{
-    let mut own = r;
-    close_lent(&mut own, cells);
-    own
-}
 
 fn main() {
     let sets = [1u8, 2, 4, 8];
@@ -39,7 +25,8 @@ fn main() {
     // Round 1: the dealer's frame.
     let from_dealer = [5u8];
     let dealt = receive(begun.rec, &mut cells, 0, &from_dealer);
-    let first = close_round(dealt.rec, &mut cells);
+    let closed = close_own(dealt.rec, &mut cells);
+    let first = closed.rec;
     // Round 2: the board's own frame, then those of boards 2 and 3.
     let mut frame = [0u8; 1];
     send(first, &cells, &mut frame);
@@ -47,12 +34,14 @@ fn main() {
     let second = receive(first, &mut cells, 2, &from_2);
     let from_3 = [7u8];
     let third = receive(second.rec, &mut cells, 3, &from_3);
-    let last = close_round(third.rec, &mut cells);
+    let ended = close_own(third.rec, &mut cells);
+    let last = ended.rec;
     // Its frame, the decision, and the list as a set.
     let decision = match decide(last) {
         Decision::Value(v) => v,
         Decision::Refused(_) => 255,
     };
-    let out = [frame[0], decision, as_set(last.list)];
+    let list = last.list;
+    let out = [frame[0], decision, as_set(list)];
     io::write_all(STDOUT_FILENO, &out);
 }

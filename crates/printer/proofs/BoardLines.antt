@@ -33,20 +33,13 @@ pub record-at : (records : List Record) (i : ℕ) → boardAt (boardsOf records)
 unfolding boardAt boardsOf nobody
 record-at records i = ap (λ (b : Board). b .rec) (List·getD-map (λ (r : Record). boardWith r ([])) records i voidRecord)
 
--- Its decision and its list, as the code reads them: with any record for want of one that has decision 0 and an empty list.
-pub decision-at : (records : List Record) (i : ℕ) (other : Record) → other .decision ≡ 0
-    → getD records i other .decision ≡ boardAt (boardsOf records) i .rec .decision
-unfolding boardAt boardsOf nobody voidRecord
-decision-at [] i other e = e
-decision-at (r ∷ rs) zero other e = refl
-decision-at (r ∷ rs) (suc i) other e = decision-at rs i other e
-
-pub list-at : (records : List Record) (i : ℕ) (other : Record) → other .list ≡ 0
-    → getD records i other .list ≡ boardAt (boardsOf records) i .rec .list
-unfolding boardAt boardsOf nobody voidRecord
-list-at [] i other e = e
-list-at (r ∷ rs) zero other e = refl
-list-at (r ∷ rs) (suc i) other e = list-at rs i other e
+-- The same as the code reads it, with another record past the end.
+pub record-there : (records : List Record) (i : ℕ) (other : Record) → i < length records
+    → getD records i other ≡ boardAt (boardsOf records) i .rec
+unfolding boardAt boardsOf nobody
+record-there [] i other l = absurd (omega arith)
+record-there (r ∷ rs) zero other l = refl
+record-there (r ∷ rs) (suc i) other l = record-there rs i other (omega arith)
 
 -- The line of a board i that keeps cells.
 abbrev keeperLine : Head → Record → ℕ → List ℕ → List ℕ
@@ -111,14 +104,13 @@ module _ (h : Head) (w : Boards) where
       cases (member (0 + k) (h .faulty)) (λ f. rw (line-faulty (0 + k) [] f) (omega arith)) (λ f. omega (arith, line-size (0 + k) f)) in
       omega (arith, e, l, print-short k)
 
-  -- The line of a board outside F, from a record with its decision and its list.
-  pub line-healthy : (i : ℕ) (r : Record) → r .decision ≡ boardAt w i .rec .decision → r .list ≡ boardAt w i .rec .list
-      → member i (h .faulty) ≡ false → healthyLine h i r [] ≡ boardLine h w i []
+  -- The line of a board outside F.
+  pub line-healthy : (i : ℕ) (r : Record) → r ≡ boardAt w i .rec → member i (h .faulty) ≡ false → healthyLine h i r [] ≡ boardLine h w i []
   unfolding healthyLine
-  line-healthy i r ev es f =
+  line-healthy i r e f =
       cases (eqb i (h .plan .dealer))
       (λ d. rw d (sym (line-dealer i [] f d)))
-      (λ d. rw d (ap₂ (λ v s. printed i v (asSet s) (heldAt (listed (h .plan)) (asSet s)) []) ev es ∙ sym (line-other i [] f d)))
+      (λ d. rw d (ap (λ x. keeperLine h x i []) e ∙ sym (line-other i [] f d)))
 
   -- A turn of the loop: the line is stored after those before it, or there is none.
   pub one-more : (i used : ℕ) (out₀ out next line : List ℕ) → used ≡ length (printBoards h w 0 i) → out ≡ sets out₀ 0 (printBoards h w 0 i)

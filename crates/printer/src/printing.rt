@@ -57,8 +57,9 @@ fn print_board(head: Head, i: u8, r: Record, out: &mut [u8], at: usize)
     if i == dealer {
         print_line(out, at, i, head.word, 0, 0);
     } else {
-        let list = as_set(r.list);
-        print_line(out, at, i, r.decision, list, held_at(head.plan, list));
+        let list = r.list;
+        let set = as_set(list);
+        print_line(out, at, i, r.decision, set, held_at(head.plan, set));
     }
 }
 

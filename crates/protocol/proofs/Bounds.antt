@@ -1,9 +1,9 @@
--- Values are below the span, and lists name boards below n.
+-- Values are below the span, and lists stay good.
 -- Assumes nothing.
-use Prim.Native.Nat.{ℕ, zero, suc, _-_, _<_, _^_}
+use Prim.Native.Nat.{ℕ, zero, suc, _-_, _<_}
 use mathlib.Core.Path.{_≡_, refl, sym, subst}
 use mathlib.Core.Bool.{Bool}
-use mathlib.Core.List.{List, _∷_, List·Memᴰ, List·Memᴰ·head, List·Memᴰ·tail, []}
+use mathlib.Core.List.{List, _∷_, List·Memᴰ, []}
 use mathlib.Core.Option.{Option, some, none}
 use native.Mathlib.Omega.{arith}
 use lib.Dec.{ltb}
@@ -17,17 +17,21 @@ use Rattle.plan.specs.Values.{default, value}
 use Rattle.schedule.specs.declared.rounds.Run.{Run}
 use Rattle.schedule.specs.declared.rounds.Round.{Round}
 use Rattle.schedule.specs.Schedule.{rounds}
+use Rattle.schedule.proofs.Steps.{Has}
 use Rattle.tree.specs.Labels.{Label, last, labels}
 use Rattle.tree.specs.Cells.{cellAt}
 use Rattle.tree.proofs.Labels.{no-label, root-inv, label-inv}
 use Rattle.protocol.specs.Nodes.{read, internal, inner}
+use Rattle.protocol.specs.declared.records.Rule.{Rule}
 use Rattle.protocol.specs.declared.records.Rule.the-variants as Rule
-use Rattle.protocol.specs.Detection.{vote, resolve, resolveRoot, byCell, byResolving, passes, Scan, detectG, detectAllG, detectC, detectAllC, detectLevels}
+use Rattle.protocol.specs.declared.records.Slot.{Slot}
+use Rattle.protocol.specs.Listing.{levelOf}
+use Rattle.protocol.specs.Detection.{vote, resolve, resolveRoot, detectLevels}
 use Rattle.protocol.specs.Rounds.{Board, gather}
 use Rattle.protocol.proofs.Default.{rootResolved, unresolved-default, resolved-root}
-use Rattle.protocol.proofs.Nodes.{inner-inv, node-label}
-use Rattle.protocol.proofs.Listing.{join-below}
-use Rattle.protocol.proofs.Rules.{detectG-joined, detectG-kept, detectC-joined, detectC-kept}
+use Rattle.protocol.proofs.Nodes.{internal-above, no-node, inner-inv, node-label, node-length}
+use Rattle.protocol.proofs.Listing.{GoodEntry, GoodList, join-good}
+use Rattle.protocol.proofs.Joining.{Keeps, levels-keeps, gather-keeps}
 
 module _ (p : Plan) (default-below : default p < p .span) where
   pub value-small : (x : ℕ) → value p x < p .span
@@ -70,41 +74,46 @@ last-below n d zero α l m = absurd (no-label n d α m)
 last-below n d (suc zero) α l m = rw (root-inv n d α m) l
 last-below n d (suc (suc k)) α l m = let (β, w, (q, x, lq, a)) = label-inv n d k α m in rw x lq
 
-module _ (p : Plan) (l : p .dealer < p .n) (i : ℕ) where
-  -- These are nodes.
-  abbrev pub Inner : List Label → Type 0
-  Inner αs = (α : Label) → List·Memᴰ α αs → (k : ℕ) × List·Memᴰ α (inner p i k)
+-- The last board of an internal node is below n, and its level is 1 to R − 1.
+module _ (p : Plan) (l : p .dealer < p .n) (i : ℕ) (k : ℕ) (α : Label) (m : List·Memᴰ α (inner p i k)) where
+  pub inner-below : last α < p .n
+  inner-below = last-below (p .n) (p .dealer) k α l (node-label p i k α (inner-inv p i k α m .0))
 
-  inner-below : (α : Label) → ((k : ℕ) × List·Memᴰ α (inner p i k)) → last α < p .n
-  inner-below α h = let (k, m) = h in last-below (p .n) (p .dealer) k α l (node-label p i k α (inner-inv p i k α m .0))
+  pub inner-length : length α ≡ k
+  inner-length = node-length p i k α (inner-inv p i k α m .0)
 
-  module _ (run : Run) (round : Round) where
-    pub detectG-below : (αs : List Label) (s : Scan) → Inner αs → s .list < 2 ^ p .n → detectAllG p i run round αs s .list < 2 ^ p .n
-    unfolding detectAllG
-    detectG-below [] s h b = b
-    detectG-below (α ∷ αs) s h b =
-        detectG-below αs (detectG p i run round α s) (λ β w. h β (List·Memᴰ·tail w))
-        (cases (passes p α (byCell p (s .cells) α) (s .list)) (λ e. rw (detectG-kept p i run round α s e) b)
-        (λ e. rw (detectG-joined p i run round α s e) (join-below run round Rule.G (length α) (p .n) (last α) (s .list) (inner-below α (h α (List·Memᴰ·head refl))) b)))
+  pub inner-high : length α < rounds p .0
+  inner-high = internal-above p i α (inner-inv p i k α m .1)
 
-    pub detectC-below : (cells : List ℕ) (αs : List Label) (s : ℕ) → Inner αs → s < 2 ^ p .n → detectAllC p i run round cells αs s < 2 ^ p .n
-    unfolding detectAllC
-    detectC-below cells [] s h b = b
-    detectC-below cells (α ∷ αs) s h b =
-        detectC-below cells αs (detectC p i run round cells α s) (λ β w. h β (List·Memᴰ·tail w))
-        (cases (passes p α (byResolving p i cells α) s) (λ e. rw (detectC-kept p i run round α cells s e) b)
-        (λ e. rw (detectC-joined p i run round α cells s e) (join-below run round Rule.C (length α) (p .n) (last α) s (inner-below α (h α (List·Memᴰ·head refl))) b)))
+pub inner-low : (p : Plan) (i k : ℕ) (α : Label) → List·Memᴰ α (inner p i k) → 0 < k
+inner-low p i zero α m = absurd (no-node p i α (inner-inv p i zero α m .0))
+inner-low p i (suc k) α m = omega arith
 
-    pub levels-below : (cells : List ℕ) (k s : ℕ) → s < 2 ^ p .n → detectLevels p i run round cells k s < 2 ^ p .n
-    unfolding detectLevels
-    levels-below cells zero s b = b
-    levels-below cells (suc k) s b =
-        levels-below cells k (detectAllC p i run round cells (inner p i (suc k)) s) (detectC-below cells (inner p i (suc k)) s (λ α m. (suc k, m)) b)
+-- A list stays good: who joins at an internal node is below n, in a run and a round that the plan has, at a level from 1 to R − 1.
+module _ (p : Plan) (l : p .dealer < p .n) (i : ℕ) (run : Run) (round : Round) (has : Has p run round) where
+  joins-good : (rule : ℕ → Rule) → ((x : ℕ) → levelOf (rule x) ≡ x) → (k : ℕ) → Keeps p i run round (GoodList p) rule (inner p i k)
+  joins-good rule same k α s m _ g =
+      let z = same (length α) in
+      let good : GoodEntry p run round (rule (length α)) = record {
+        position = has;
+        level-low = omega (arith, z, inner-length p l i k α m, inner-low p i k α m);
+        level-high = omega (arith, z, inner-high p l i k α m);
+      } in
+      join-good p (last α) run round (rule (length α)) s (inner-below p l i k α m) good g
 
-pub gather-below : (b : Board) → b .rec .plan .dealer < b .rec .plan .n → b .rec .list < 2 ^ b .rec .plan .n → gather b .list < 2 ^ b .rec .plan .n
-unfolding gather
-gather-below b l h =
-    detectG-below (b .rec .plan) l (b .rec .board) (b .rec .run) (b .rec .round) (inner (b .rec .plan) (b .rec .board) (b .rec .round .0 - 1)) _
-    (λ α m. (b .rec .round .0 - 1, m)) h
+  pub joins-good-G : (k : ℕ) → Keeps p i run round (GoodList p) Rule.G (inner p i k)
+  unfolding levelOf
+  joins-good-G = joins-good Rule.G (λ x. refl)
 
--- Entry c of a table.
+  pub joins-good-C : (k : ℕ) → Keeps p i run round (GoodList p) Rule.C (inner p i k)
+  unfolding levelOf
+  joins-good-C = joins-good Rule.C (λ x. refl)
+
+  pub levels-good : (cells : List ℕ) (k : ℕ) (s : List Slot) → GoodList p s → GoodList p (detectLevels p i run round cells k s)
+  levels-good cells k s g = levels-keeps p i run round (GoodList p) cells k s joins-good-C g
+
+pub gather-good : (b : Board) → b .rec .plan .dealer < b .rec .plan .n → Has (b .rec .plan) (b .rec .run) (b .rec .round)
+    → GoodList (b .rec .plan) (b .rec .list) → GoodList (b .rec .plan) (gather b .list)
+gather-good b l has g =
+    let r = b .rec in
+    gather-keeps b (GoodList (r .plan)) (joins-good-G (r .plan) l (r .board) (r .run) (r .round) has (r .round .0 - 1)) g

@@ -31,6 +31,7 @@ use Rattle.tree.proofs.Sizes.{size-suc}
 use Rattle.tree.proofs.Ranks.{label-width}
 use Rattle.protocol.specs.Limits.{frameMost, frameRoom}
 use Rattle.protocol.specs.declared.records.Record.{Record}
+use Rattle.protocol.specs.Listing.{asSet}
 use Rattle.protocol.specs.Nodes.{filter, internal, nodes, inner, carried, sent, due, frame}
 use Rattle.protocol.specs.Rounds.{Board, counted, receive}
 use Rattle.protocol.specs.Calls.{isTaken, judgeOpen, judgeReceiving, taking, receiving, frameOf, wireOf, judgeSending, sending}
@@ -163,7 +164,7 @@ counted-few : (r : Record) (q : ℕ) (αs : List Label) (f : List ℕ) → lengt
 unfolding counted
 counted-few r q αs f l =
     cases (leb (length f) frameRoom)
-    (λ e. ap (λ x. cond (eqb (length x) (length αs) && not (member q (r .list))) x []) (take-all frameRoom f (leb-true (length f) frameRoom e)))
+    (λ e. ap (λ x. cond (eqb (length x) (length αs) && not (member q (asSet (r .list)))) x []) (take-all frameRoom f (leb-true (length f) frameRoom e)))
     (λ e. let high : frameRoom < length f = leb-false (length f) frameRoom e in
     let cut : length (take frameRoom f) ≡ frameRoom = length-take-le frameRoom f (omega arith) in
     rw (ne-eqb (length (take frameRoom f)) (length αs) (omega arith), ne-eqb (length f) (length αs) (omega arith)))

@@ -3,14 +3,16 @@
 use Prim.Native.Nat.{ℕ, _≤_, _<_, _^_}
 use mathlib.Core.Path.{_≡_, ap, refl}
 use mathlib.Core.Logic.{_≢_, ⊎-elim, _↔_}
-use mathlib.Core.Bool.{true, false, not, _&&_}
+use mathlib.Core.Bool.{Bool, true, false, not, _&&_}
 use mathlib.Core.List.{List, []}
 use native.Mathlib.Omega.{arith}
 use lib.Dec.{eqb, leb, ltb}
 use lib.ListN.{length}
 use borrow.Author.Tests.{eq-eqb, ne-eqb, eqb-true, eqb-false, lt-ltb, le-ltb, ltb-true, ltb-false, lt-leb, leb-false}
 use Rattle.sets.specs.Sets.{within, boards}
-use Rattle.sets.proofs.Tests.{cases, clash, and-l, and-r, and-true, or-true, or-left, or-right, not-t, true-not}
+use Rattle.sets.specs.Search.{any}
+use Rattle.sets.proofs.Search.{any-true, any-false}
+use Rattle.sets.proofs.Tests.{cases, clash, is-false, and-l, and-r, and-true, or-true, or-left, or-right, not-t, not-f, true-not}
 use Rattle.sets.proofs.Member.{within-boards, boards-within}
 use Rattle.refusals.specs.Outcome.{Outcome, taken, refused, andThen}
 use Rattle.refusals.proofs.Outcomes.{passed, both-taken}
@@ -22,8 +24,10 @@ use Rattle.plan.proofs.Accepted.{Accepted, accepted}
 use Rattle.schedule.proofs.Steps.{Has, has-round, round-has}
 use Rattle.tree.specs.Places.{cellCount}
 use Rattle.protocol.specs.declared.records.Record.{Record}
+use Rattle.protocol.specs.Listing.{entryAt, asSet}
 use Rattle.protocol.specs.Rounds.{Board}
-use Rattle.protocol.specs.Calls.{isTaken, judgeNumber, judgeOther, judgeBoard, judgeCells, goodPlan, goodNumber, goodOther, goodPosition, goodMarks, goodDecision, goodRecord, judgeRecord, judgeOpen}
+use Rattle.protocol.specs.Calls.{isTaken, judgeNumber, judgeOther, judgeBoard, judgeCells, goodPlan, goodNumber, goodOther, goodPosition, goodMarks, goodEntry, goodEntries, goodDecision, goodRecord, judgeRecord, judgeOpen}
+use Rattle.protocol.proofs.Listing.{GoodList}
 
 pub is-taken : (o : Outcome) → isTaken o ≡ true → o .number ≡ 0
 unfolding isTaken
@@ -43,13 +47,13 @@ pub plan-default : (p : Plan) → judged p .number ≡ 0 → default p < p .span
 unfolding default
 plan-default p e = plan-facts p e .default-below
 
--- A good record, by the grounds of 12: its plan, its number, which is not the dealer's, its position, its marks and its decision.
+-- A good record, by the grounds of 12: its plan, its number, which is not the dealer's, its position, its list, its marks and its decision.
 pub record Good (r : Record) : Type 0 where
   pub plan-good : judged (r .plan) .number ≡ 0
   pub below : r .board < r .plan .n
   pub other : r .board ≢ r .plan .dealer
   pub position : Has (r .plan) (r .run) (r .round)
-  pub list-below : r .list < 2 ^ r .plan .n
+  pub list-good : GoodList (r .plan) (r .list)
   pub marks-below : r .marks < 2 ^ r .plan .n
   pub decision-below : r .decided ≡ true → r .decision < r .plan .span
 
@@ -120,14 +124,22 @@ module _ (r : Record) where
   unfolding goodPosition
   position-ground = (has-round (r .plan) (r .run) (r .round), round-has (r .plan) (r .run) (r .round))
 
-  pub marks-ground : (goodMarks r ≡ true) ↔ ((r .list < 2 ^ r .plan .n) × (r .marks < 2 ^ r .plan .n))
+  pub marks-ground : (goodMarks r ≡ true) ↔ ((asSet (r .list) < 2 ^ r .plan .n) × (r .marks < 2 ^ r .plan .n))
   unfolding goodMarks
   marks-ground =
       let n = r .plan .n in
-      let m = within (r .list) (boards n) in
+      let m = within (asSet (r .list)) (boards n) in
       let t = within (r .marks) (boards n) in (
-        λ e. (within-boards n (r .list) (and-l m t e), within-boards n (r .marks) (and-r m t e)),
-        λ h. and-true m t (boards-within n (r .list) (h .0)) (boards-within n (r .marks) (h .1)),
+        λ e. (within-boards n (asSet (r .list)) (and-l m t e), within-boards n (r .marks) (and-r m t e)),
+        λ h. and-true m t (boards-within n (asSet (r .list)) (h .0)) (boards-within n (r .marks) (h .1)),
+      )
+
+  pub entries-ground : (goodEntries r ≡ true) ↔ ((i : ℕ) → i < 7 → goodEntry (r .plan) (entryAt (r .list) i) ≡ true)
+  unfolding goodEntries
+  entries-ground =
+      let bad : ℕ → Bool = λ i. not (goodEntry (r .plan) (entryAt (r .list) i)) in (
+        λ e i l. not-f (goodEntry (r .plan) (entryAt (r .list) i)) (any-false bad 7 (not-t (any bad 7) e) i l),
+        λ h. true-not (any bad 7) (is-false (any bad 7) (λ e. let (i, l, t) = any-true bad 7 e in clash (h i l) (not-t (goodEntry (r .plan) (entryAt (r .list) i)) t))),
       )
 
   pub decision-ground : (goodDecision r ≡ true) ↔ (r .decided ≡ true → r .decision < r .plan .span)
@@ -150,20 +162,22 @@ good-record r e =
     let c = goodOther r in
     let k = goodPosition r in
     let m = goodMarks r in
+    let s = goodEntries r in
     let d = goodDecision r in
-    let front = and-l (a && (b && c)) (k && (m && d)) e in
-    let back = and-r (a && (b && c)) (k && (m && d)) e in
+    let front = and-l (a && (b && c)) (k && (m && (s && d))) e in
+    let back = and-r (a && (b && c)) (k && (m && (s && d))) e in
     let board = and-r a (b && c) front in
-    let fields = and-r k (m && d) back in
-    let marks = marks-ground r .0 (and-l m d fields) in
+    let fields = and-r k (m && (s && d)) back in
+    let rest = and-r m (s && d) fields in
+    let marks = marks-ground r .0 (and-l m (s && d) fields) in
     record {
       plan-good = plan-ground r .0 (and-l a (b && c) front);
       below = number-ground r .0 (and-l b c board);
       other = other-ground r .0 (and-r b c board);
-      position = position-ground r .0 (and-l k (m && d) back);
-      list-below = marks .0;
+      position = position-ground r .0 (and-l k (m && (s && d)) back);
+      list-good = record { below = marks .0; entries = entries-ground r .0 (and-l s d rest) };
       marks-below = marks .1;
-      decision-below = decision-ground r .0 (and-r m d fields);
+      decision-below = decision-ground r .0 (and-r s d rest);
     }
 
 pub record-good : (r : Record) → Good r → goodRecord r ≡ true
@@ -174,11 +188,13 @@ record-good r g =
     let c = goodOther r in
     let k = goodPosition r in
     let m = goodMarks r in
+    let s = goodEntries r in
     let d = goodDecision r in
-    and-true (a && (b && c)) (k && (m && d))
+    and-true (a && (b && c)) (k && (m && (s && d)))
     (and-true a (b && c) (plan-ground r .1 (g .plan-good)) (and-true b c (number-ground r .1 (g .below)) (other-ground r .1 (g .other))))
-    (and-true k (m && d) (position-ground r .1 (g .position))
-    (and-true m d (marks-ground r .1 (g .list-below, g .marks-below)) (decision-ground r .1 (g .decision-below))))
+    (and-true k (m && (s && d)) (position-ground r .1 (g .position))
+    (and-true m (s && d) (marks-ground r .1 (g .list-good .below, g .marks-below))
+    (and-true s d (entries-ground r .1 (g .list-good .entries)) (decision-ground r .1 (g .decision-below)))))
 
 pub record-facts : (r : Record) → judgeRecord r .number ≡ 0 → Good r
 unfolding judgeRecord

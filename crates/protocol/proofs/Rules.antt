@@ -19,6 +19,7 @@ use Rattle.schedule.specs.declared.rounds.Run.{Run}
 use Rattle.schedule.specs.declared.rounds.Round.{Round}
 use Rattle.tree.specs.Labels.{Label, occurs, last}
 use Rattle.protocol.specs.declared.records.Rule.the-variants as Rule
+use Rattle.protocol.specs.declared.records.Slot.{Slot}
 use Rattle.protocol.specs.Listing.{join}
 use Rattle.protocol.specs.Nodes.{nodes}
 use Rattle.protocol.specs.Detection.{vote, byCell, byResolving, passes, maskBoard, Scan, detectG, detectC}
@@ -32,7 +33,7 @@ vote-untolerated p α f v e = not-t _ (only-some _ (p .span) v e .1)
 module _ (p : Plan) (i : ℕ) (run : Run) (round : Round) (α : Label) where
   module _ (s : Scan) where
     pub detectG-joined : passes p α (byCell p (s .cells) α) (s .list) ≡ false
-        → detectG p i run round α s ≡ record { list = join (last α) run round Rule.G (length α) (s .list); cells = maskBoard p (last α) (nodes p i (suc (length α))) (s .cells) }
+        → detectG p i run round α s ≡ record { list = join (last α) run round (Rule.G (length α)) (s .list); cells = maskBoard p (last α) (nodes p i (suc (length α))) (s .cells) }
     unfolding detectG
     detectG-joined e = rw e
 
@@ -40,8 +41,8 @@ module _ (p : Plan) (i : ℕ) (run : Run) (round : Round) (α : Label) where
     unfolding detectG
     detectG-kept e = rw e
 
-  module _ (cells : List ℕ) (s : ℕ) where
-    pub detectC-joined : passes p α (byResolving p i cells α) s ≡ false → detectC p i run round cells α s ≡ join (last α) run round Rule.C (length α) s
+  module _ (cells : List ℕ) (s : List Slot) where
+    pub detectC-joined : passes p α (byResolving p i cells α) s ≡ false → detectC p i run round cells α s ≡ join (last α) run round (Rule.C (length α)) s
     unfolding detectC
     detectC-joined e = rw e
 

@@ -16,6 +16,7 @@ use Rattle.schedule.specs.declared.rounds.Round.{Round}
 use Rattle.tree.specs.Labels.{Label}
 use Rattle.tree.specs.Places.{cellCount}
 use Rattle.tree.specs.Cells.{blank}
+use Rattle.protocol.specs.declared.records.Slot.{Slot}
 use Rattle.protocol.specs.declared.records.Record.{Record}
 use Rattle.protocol.specs.Nodes.{sent, due, frame}
 use Rattle.protocol.specs.Detection.{Scan, resolveRoot, detectLevels}
@@ -40,7 +41,7 @@ begun-length n cells h =
     )
 
 -- 01: "a frame from a listed board" counts as 0 throughout, 02 b: as the default: it has no values.
-pub listed-silent : (list q : ℕ) (αs : List Label) (f : List ℕ) → member q (asSet list) ≡ true → counted list q αs f ≡ []
+pub listed-silent : (list : List Slot) (q : ℕ) (αs : List Label) (f : List ℕ) → member q (asSet list) ≡ true → counted list q αs f ≡ []
 unfolding counted
 listed-silent list q αs f on = cases (eqb (length f) (length αs)) (λ e. rw (e, on) refl) (λ e. rw e refl)
 

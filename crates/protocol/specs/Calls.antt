@@ -1,6 +1,6 @@
 -- The six calls of a board: from all inputs to the answer, the record and every lent byte.
 use Prim.Native.Nat.{ℕ}
-use mathlib.Core.Bool.{Bool, false, not, _&&_, _||_, cond}
+use mathlib.Core.Bool.{Bool, true, false, not, _&&_, _||_, cond}
 use mathlib.Core.List.{List, [], _∷_, _++_}
 use lib.Dec.{eqb, leb, ltb}
 use lib.ListN.{length, drop}
@@ -8,12 +8,14 @@ use Rattle.codec.specs.Codec.{encode, decode}
 use Rattle.sets.specs.Search.{any}
 use Rattle.sets.specs.Sets.{member, within, boards}
 use Rattle.plan.specs.declared.plan.Plan.{Plan}
-use Rattle.schedule.specs.Schedule.{hasRound}
+use Rattle.schedule.specs.Schedule.{rounds, hasRound}
 use Rattle.refusals.specs.Outcome.{Outcome, taken, refused, andThen}
 use Rattle.plan.specs.Calls.{judged, voidPlan}
 use Rattle.tree.specs.Places.{cellCount}
+use Rattle.protocol.specs.declared.records.Entry.{Entry}
+use Rattle.protocol.specs.declared.records.Entry.the-variants as Entry
 use Rattle.protocol.specs.declared.records.Record.{Record}
-use Rattle.protocol.specs.Listing.{asSet}
+use Rattle.protocol.specs.Listing.{noEntries, entryAt, levelOf, asSet}
 use Rattle.protocol.specs.Records.{standingAt}
 use Rattle.protocol.specs.Nodes.{due, frame}
 use Rattle.protocol.specs.Rounds.{boardWith, Board, receive, cleared, close}
@@ -63,11 +65,19 @@ goodPosition r = hasRound (r .plan) (r .run) (r .round)
 unfoldable pub goodMarks : Record → Bool
 goodMarks r = within (asSet (r .list)) (boards (r .plan .n)) && within (r .marks) (boards (r .plan .n))
 
+-- 02 d: "a record with an entry whose run and round the plan lacks, or whose level is not 1 to R − 1, falls under number 12".
+unfoldable pub goodEntry : Plan → Entry → Bool
+goodEntry p Entry.Nothing = true
+goodEntry p (Entry.Listed t k rule) = hasRound p t k && (ltb 0 (levelOf rule) && ltb (levelOf rule) (rounds p .0))
+
+unfoldable pub goodEntries : Record → Bool
+goodEntries r = not (any (λ i. not (goodEntry (r .plan) (entryAt (r .list) i))) 7)
+
 unfoldable pub goodDecision : Record → Bool
 goodDecision r = not (r .decided) || ltb (r .decision) (r .plan .span)
 
 unfoldable pub goodRecord : Record → Bool
-goodRecord r = (goodPlan r && (goodNumber r && goodOther r)) && (goodPosition r && (goodMarks r && goodDecision r))
+goodRecord r = (goodPlan r && (goodNumber r && goodOther r)) && (goodPosition r && (goodMarks r && (goodEntries r && goodDecision r)))
 
 unfoldable pub judgeRecord : Record → Outcome
 judgeRecord r = cond (goodRecord r) (taken []) (refused 12)
@@ -82,16 +92,16 @@ judgeOpen b = andThen (judgeRecord (b .rec)) (andThen (judgeCells (b .rec .plan)
 
 -- The record of a board that begins: run 1, round 1, nothing listed or marked.
 unfoldable pub freshRecord : Plan → ℕ → Record
-freshRecord p i = standingAt p i (record { 0 = 1 }) (record { 0 = 1 }) 0
+freshRecord p i = standingAt p i (record { 0 = 1 }) (record { 0 = 1 }) noEntries
 
--- The record beside a refused beginning: everything 0, so that every call on it is number 12.
+-- The record beside a refused beginning: everything 0 and nobody listed, so that every call on it is number 12.
 unfoldable pub voidRecord : Record
 voidRecord = record {
   plan = voidPlan;
   board = 0;
   run = record { 0 = 0 };
   round = record { 0 = 0 };
-  list = 0;
+  list = noEntries;
   marks = 0;
   decided = false;
   decision = 0;

@@ -19,6 +19,7 @@ use Rattle.tree.specs.Labels.{Label, occurs, last}
 use Rattle.tree.specs.Cells.{store}
 use Rattle.plan.specs.Values.{default}
 use Rattle.protocol.specs.declared.records.Rule.the-variants as Rule
+use Rattle.protocol.specs.declared.records.Slot.{Slot}
 use Rattle.protocol.specs.Listing.{join, asSet}
 use Rattle.protocol.specs.Nodes.{read, internal, nodes, inner}
 
@@ -42,9 +43,10 @@ unfoldable pub resolveRoot : Plan → ℕ → List ℕ → ℕ
 resolveRoot p i cells = Option·getD (resolve p i cells (rounds p .0 - 1) (p .dealer ∷ [])) (default p)
 
 -- 01: a value v below m makes "{children whose cell is not v} ∪ L tolerated"; f has what each child of α is worth.
-unfoldable pub explained : Plan → Label → (ℕ → Option ℕ) → ℕ → Bool
+unfoldable pub explained : Plan → Label → (ℕ → Option ℕ) → List Slot → Bool
 explained p α f list =
-    any (λ v. tolerated (listed p) (setOf (λ c. (not (occurs c α) && not (same (f c) (some v))) || member c (asSet list)) (p .n))) (p .span)
+    let set = asSet list in
+    any (λ v. tolerated (listed p) (setOf (λ c. (not (occurs c α) && not (same (f c) (some v))) || member c set) (p .n))) (p .span)
 
 -- What child c of α is worth by its cell, and by what it resolves to.
 unfoldable pub byCell : Plan → List ℕ → Label → ℕ → Option ℕ
@@ -54,12 +56,12 @@ unfoldable pub byResolving : Plan → ℕ → List ℕ → Label → ℕ → Opt
 byResolving p i cells α c = resolve p i cells (rounds p .0 - suc (length α)) (c ∷ α)
 
 -- Does the rule leave the list as it is at node α? 01: "If r is not in L and no value v ..., r joins L".
-unfoldable pub passes : Plan → Label → (ℕ → Option ℕ) → ℕ → Bool
+unfoldable pub passes : Plan → Label → (ℕ → Option ℕ) → List Slot → Bool
 passes p α f list = member (last α) (asSet list) || explained p α f list
 
 -- The list and the cells, as a rule goes over the nodes: 01 has both change "before the next node is looked at".
 pub record Scan : Type 0 where
-  pub list : ℕ
+  pub list : List Slot
   pub cells : List ℕ
 
 -- Every cell of the nodes given that end in r becomes the default.
@@ -72,7 +74,7 @@ maskBoard p r (γ ∷ γs) cells = maskBoard p r γs (cond (eqb (last γ) r) (st
 unfoldable pub detectG : Plan → ℕ → Run → Round → Label → Scan → Scan
 detectG p i t k α s =
     let joined : Scan = record {
-      list = join (last α) t k Rule.G (length α) (s .list);
+      list = join (last α) t k (Rule.G (length α)) (s .list);
       cells = maskBoard p (last α) (nodes p i (suc (length α))) (s .cells);
     } in
     cond (passes p α (byCell p (s .cells) α) (s .list)) s joined
@@ -82,16 +84,16 @@ detectAllG p i t k [] s = s
 detectAllG p i t k (α ∷ αs) s = detectAllG p i t k αs (detectG p i t k α s)
 
 -- 003: FD2; 01: rule C, "rule G on resolved children, without changing cells". In run t and round k, the last.
-unfoldable pub detectC : Plan → ℕ → Run → Round → List ℕ → Label → ℕ → ℕ
+unfoldable pub detectC : Plan → ℕ → Run → Round → List ℕ → Label → List Slot → List Slot
 detectC p i t k cells α list =
-    cond (passes p α (byResolving p i cells α) list) list (join (last α) t k Rule.C (length α) list)
+    cond (passes p α (byResolving p i cells α) list) list (join (last α) t k (Rule.C (length α)) list)
 
-unfoldable pub detectAllC : Plan → ℕ → Run → Round → List ℕ → List Label → ℕ → ℕ
+unfoldable pub detectAllC : Plan → ℕ → Run → Round → List ℕ → List Label → List Slot → List Slot
 detectAllC p i t k cells [] list = list
 detectAllC p i t k cells (α ∷ αs) list = detectAllC p i t k cells αs (detectC p i t k cells α list)
 
 -- 01: "over levels R − 1 down to 1, each in cell order": the level given and those below it.
-unfoldable pub detectLevels : Plan → ℕ → Run → Round → List ℕ → ℕ → ℕ → ℕ
+unfoldable pub detectLevels : Plan → ℕ → Run → Round → List ℕ → ℕ → List Slot → List Slot
 detectLevels p i t k cells zero list = list
 detectLevels p i t k cells (suc level) list =
     detectLevels p i t k cells level (detectAllC p i t k cells (inner p i (suc level)) list)

@@ -6,4 +6,5 @@ pub mod Nodes
 pub mod Detection
 pub mod Rounds
 pub mod Calls
+pub mod Entries
 pub mod Session

@@ -11,6 +11,7 @@ use Rattle.schedule.specs.Schedule.{rounds}
 use Rattle.tree.specs.Labels.{Label}
 use Rattle.tree.specs.Places.{cellCount}
 use Rattle.tree.specs.Cells.{blank, store}
+use Rattle.protocol.specs.declared.records.Slot.{Slot}
 use Rattle.protocol.specs.declared.records.Record.{Record}
 use Rattle.plan.specs.Values.{default, value}
 use Rattle.protocol.specs.Listing.{asSet}
@@ -38,7 +39,7 @@ fill p q (α ∷ αs) (v ∷ vs) cells = fill p q αs vs (store (p .n) cells (q 
 
 -- 01: "A frame of another length, .. and a frame from a listed board all count as 0 throughout", 02 b: as the default: such a frame has
 -- no values.
-unfoldable pub counted : ℕ → ℕ → List Label → List ℕ → List ℕ
+unfoldable pub counted : List Slot → ℕ → List Label → List ℕ → List ℕ
 counted list q αs f = cond (eqb (length f) (length αs) && not (member q (asSet list))) f []
 
 -- A frame of board q is taken. 01: "the receiver stores each at that node's child q".

@@ -4,10 +4,20 @@ use plan::plan::Plan;
 use schedule::rounds::Round;
 use schedule::rounds::Run;
 
-// The rule by which a board was listed: rule G, 003's FD1, and rule C, its FD2.
+// The rule by which a board was listed, with the level of the node: rule G, 003's FD1, and rule C, its FD2.
 pub enum Rule {
-    G,
-    C,
+    G(u8),
+    C(u8),
+}
+
+// What is kept of a board: nothing, or the run and the round in which it was listed, and the rule.
+pub enum Entry {
+    Nothing,
+    Listed(Run, Round, Rule),
+}
+
+pub struct Slot {
+    pub entry: Entry,
 }
 
 pub struct Record {
@@ -17,8 +27,8 @@ pub struct Record {
     // Where it stands.
     pub run: Run,
     pub round: Round,
-    // Its list: the boards that it has detected to be faulty.
-    pub list: u8,
+    // Its list: an entry for each board that it has detected to be faulty.
+    pub list: [Slot; 7],
     // The senders whose frame was taken this round.
     pub marks: u8,
     pub decided: bool,

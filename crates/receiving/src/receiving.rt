@@ -33,11 +33,12 @@ pub fn receive(r: Record, cells: &mut [Value], sender: u8, frame: &[u8]) -> Rece
             rec: r,
         },
         Verdict::Accepted => {
+            let list = r.list;
             let answer = take(
                 r.plan,
                 r.board,
                 r.round,
-                r.list,
+                list,
                 r.marks,
                 sender,
                 frame,

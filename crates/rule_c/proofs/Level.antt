@@ -30,7 +30,8 @@ use Rattle.tree.proofs.Ranks.{rank-lt}
 use Rattle.tree.proofs.Within.{start-within, start-most}
 use Rattle.protocol.specs.Nodes.{inner}
 use Rattle.protocol.specs.declared.records.Rule.the-variants as Rule
-use Rattle.protocol.specs.Listing.{join}
+use Rattle.protocol.specs.declared.records.Slot.{Slot}
+use Rattle.protocol.specs.Listing.{join, asSet}
 use Rattle.protocol.proofs.Nodes.{inner-inv, node-label}
 use Rattle.voting.specs.Worth.{childTable}
 use Rattle.voting.specs.Tables.{explainedBy}
@@ -124,44 +125,44 @@ module _ {p : Plan} {holders : List ℕ} {i : ℕ} {cells : List ℕ} (k : Conve
       pub beside : Beside (p .n) (getD nodes j 0 % 128) (start + ix * (p .n - level)) cells
       beside = record { few = omega (arith, k .most-boards); there = child-there }
 
-      pub passes-here : (grown : ℕ) {b : Bool} → b ≡ passesAt p cells (start + ix * (p .n - level)) (getD nodes j 0) grown
+      pub passes-here : (grown : List Slot) {b : Bool} → b ≡ passesAt p cells (start + ix * (p .n - level)) (getD nodes j 0) grown
           → passesBy p cells (getD (inner p i level) j []) grown ≡ b
       unfolding passesAt passesBy cellAt
       passes-here grown r =
           sym (r
-          ∙ ap₂ (λ q t. member q grown || explainedBy p (x % 128) t grown) (visited .end)
+          ∙ ap₂ (λ q t. member q (asSet grown) || explainedBy p (x % 128) t (asSet grown)) (visited .end)
           (table-same (standingFrom cells from (x % 128)) (standing (p .n) cells α) (x % 128) (p .n)
           (λ c l o. ap some (getD-any cells (from + outsideBelow (x % 128) c) 0 blank (child-there c l o) ∙ ap (λ y. getD cells y blank) (child-place c))))
-          ∙ ap (λ s. member (last α) grown || explainedBy p s (childTable (standing (p .n) cells α) s (p .n)) grown) (visited .boards))
+          ∙ ap (λ s. member (last α) (asSet grown) || explainedBy p s (childTable (standing (p .n) cells α) s (p .n)) (asSet grown)) (visited .boards))
 
     -- One node of the level.
     here : drop j (inner p i level) ≡ getD (inner p i level) j [] ∷ drop (j + 1) (inner p i level)
     here = drop-cons αs j [] (omega (arith, list-length)) ∙ ap (λ y. α ∷ drop y αs) (sym (add-one j))
 
     module _ (run : Run) (round : Round) where
-      abbrev rest : ℕ → ℕ → ℕ
+      abbrev rest : ℕ → List Slot → List Slot
       rest m d = detectBy p run round cells (drop m αs) d
 
-      step : (b : Bool) (grown : ℕ) → passesBy p cells (getD (inner p i level) j []) grown ≡ b
-          → rest j grown ≡ rest (j + 1) (cond b grown (join (last α) run round Rule.C (length α) grown))
+      step : (b : Bool) (grown : List Slot) → passesBy p cells (getD (inner p i level) j []) grown ≡ b
+          → rest j grown ≡ rest (j + 1) (cond b grown (join (last α) run round (Rule.C (length α)) grown))
       unfolding detectBy
       step b grown e =
           ap (λ l. detectBy p run round cells l grown) here
-          ∙ ap (λ x. rest (j + 1) (cond x grown (join (last α) run round Rule.C (length α) grown))) e
+          ∙ ap (λ x. rest (j + 1) (cond x grown (join (last α) run round (Rule.C (length α)) grown))) e
 
-      pub node-kept : (grown after : ℕ) → passesBy p cells (getD (inner p i level) j []) grown ≡ true → after ≡ grown
+      pub node-kept : (grown after : List Slot) → passesBy p cells (getD (inner p i level) j []) grown ≡ true → after ≡ grown
           → detectBy p run round cells (drop (j + 1) (inner p i level)) after ≡ detectBy p run round cells (drop j (inner p i level)) grown
       node-kept grown after e d = ap (rest (j + 1)) d ∙ sym (step true grown e)
 
-      pub node-joined : (grown after q : ℕ) → passesBy p cells (getD (inner p i level) j []) grown ≡ false → q ≡ getD nodes j 0 / 128 % 8
-          → after ≡ join q run round Rule.C level grown
+      pub node-joined : (grown after : List Slot) (q : ℕ) → passesBy p cells (getD (inner p i level) j []) grown ≡ false → q ≡ getD nodes j 0 / 128 % 8
+          → after ≡ join q run round (Rule.C level) grown
           → detectBy p run round cells (drop (j + 1) (inner p i level)) after ≡ detectBy p run round cells (drop j (inner p i level)) grown
       node-joined grown after q e f d =
           let depth : level ≡ length α = sym (label-length (p .n) (p .dealer) level α mem) in
-          ap (rest (j + 1)) (d ∙ ap₂ (λ r n. join r run round Rule.C n grown) (f ∙ visited .end) depth)
+          ap (rest (j + 1)) (d ∙ ap₂ (λ r n. join r run round (Rule.C n) grown) (f ∙ visited .end) depth)
           ∙ sym (step false grown e)
 
-  pub nodes-done : (run : Run) (round : Round) (j grown : ℕ) → length nodes ≤ j
+  pub nodes-done : (run : Run) (round : Round) (j : ℕ) (grown : List Slot) → length nodes ≤ j
       → detectBy p run round cells (drop j (inner p i level)) grown ≡ grown
   unfolding detectBy
   nodes-done run round j grown h =
@@ -199,12 +200,12 @@ module _ {p : Plan} {holders : List ℕ} {i : ℕ} {cells : List ℕ} (k : Conve
 
 -- From level to level.
 module _ (p : Plan) (i : ℕ) (run : Run) (round : Round) (cells : List ℕ) where
-  pub levels-step : (level list found : ℕ) → 0 < level → found ≡ detectBy p run round cells (inner p i level) list
+  pub levels-step : (level : ℕ) (list found : List Slot) → 0 < level → found ≡ detectBy p run round cells (inner p i level) list
       → levelsBy p i run round cells (level - 1) found ≡ levelsBy p i run round cells level list
   unfolding levelsBy
   levels-step zero list found l e = absurd (omega arith)
   levels-step (suc k) list found l e = ap₂ (λ z d. levelsBy p i run round cells z d) (sub-one (suc k)) e
 
-  pub levels-done : (level list : ℕ) → level ≡ 0 → levelsBy p i run round cells level list ≡ list
+  pub levels-done : (level : ℕ) (list : List Slot) → level ≡ 0 → levelsBy p i run round cells level list ≡ list
   unfolding levelsBy
   levels-done level list e = ap (λ k. levelsBy p i run round cells k list) e

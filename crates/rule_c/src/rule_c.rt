@@ -8,6 +8,7 @@ use listing::listing::join;
 use plan::plan::Plan;
 use protocol::limits::NODES;
 use protocol::records::Rule;
+use protocol::records::Slot;
 use schedule::rounds::Round;
 use schedule::rounds::Run;
 use walk::nodes::inner_nodes;
@@ -28,9 +29,9 @@ fn detect_nodes(
     round: Round,
     level: u8,
     nodes: &[u32],
-    list: u8,
+    list: [Slot; 7],
     cells: &[Value],
-) -> u8
+) -> [Slot; 7]
     requires { ⌜ AtNodes plan (now holders) board level (now nodes) (now cells) ⌝ }
     ensures { λ r. ⌜ r ≡ detectBy plan run round (now (cells .entry)) (inner plan board level) list ⌝ }
 {
@@ -42,7 +43,8 @@ fn detect_nodes(
         let node = nodes[i];
         let from = start + index_of(node) * width;
         if !passes_at(plan, holders, from, node, grown, cells) {
-            grown = join(last_of(node), run, round, Rule::C, level, grown);
+            let joined = join(last_of(node), run, round, Rule::C(level), grown);
+            grown = joined;
         }
         i += 1;
     }
@@ -56,9 +58,9 @@ fn detect_level(
     run: Run,
     round: Round,
     level: u8,
-    list: u8,
+    list: [Slot; 7],
     cells: &[Value],
-) -> u8
+) -> [Slot; 7]
     requires { ⌜ AtLevel plan (now holders) board level (now cells) ⌝ }
     ensures { λ r. ⌜ r ≡ detectBy plan run round (now (cells .entry)) (inner plan board level) list ⌝ }
 {
@@ -85,16 +87,17 @@ pub fn detect_levels(
     run: Run,
     round: Round,
     top: u8,
-    list: u8,
+    list: [Slot; 7],
     cells: &[Value],
-) -> u8
+) -> [Slot; 7]
     requires { ⌜ WholeTree plan (now holders) board top (now cells) ⌝ }
     ensures { λ r. ⌜ r ≡ levelsBy plan board run round (now (cells .entry)) (rounds plan .0 - 1) list ⌝ }
 {
     let mut grown = list;
     let mut level = top - 1;
     while 0 < level {
-        grown = detect_level(plan, holders, board, run, round, level, grown, cells);
+        let next = detect_level(plan, holders, board, run, round, level, grown, cells);
+        grown = next;
         level -= 1;
     }
     grown

@@ -19,6 +19,8 @@ use Rattle.tree.proofs.Labels.{label-below, label-length}
 use Rattle.tree.proofs.Masks.{mask-member}
 use Rattle.tree.proofs.NodePlaces.{at-mem}
 use Rattle.tree.proofs.Within.{start-most}
+use Rattle.protocol.specs.declared.records.Slot.{Slot}
+use Rattle.protocol.specs.Listing.{asSet}
 use Rattle.protocol.specs.Detection.{explained, byCell}
 use Rattle.protocol.proofs.Bounds.{last-below}
 use Rattle.voting.specs.Worth.{worth, childTable}
@@ -84,9 +86,9 @@ module _ {p : Plan} {holders : List ℕ} {level node start : ℕ} {cells : List 
   end-below = omega (arith, v .is-node .end, last-below (p .n) (p .dealer) level α (v .dealer-below) label)
 
   -- It is enough to try the children's own values.
-  pub explained-kids : (list : ℕ) → explainedBy p (node % 128) (childTable (kid p (node % 128) from cells) (node % 128) (p .n)) list ≡ explained p α (byCell p cells α) list
+  pub explained-kids : (list : List Slot) → explainedBy p (node % 128) (childTable (kid p (node % 128) from cells) (node % 128) (p .n)) (asSet list) ≡ explained p α (byCell p cells α) list
   explained-kids list =
-      ap₂ (λ s t. explainedBy p s t list) (v .is-node .boards) kids-table
+      ap₂ (λ s t. explainedBy p s t (asSet list)) (v .is-node .boards) kids-table
       ∙ sym (explained-table p α (byCell p cells α) list (v .accepted) (v .span-byte) (v .held) (label-below (p .n) (p .dealer) level α (v .dealer-below) label))
 
 -- At place i of a list of internal nodes of the level before the round's.

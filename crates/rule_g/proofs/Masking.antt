@@ -105,6 +105,6 @@ module _ (p : Plan) (i : ℕ) (run : Run) (round : Round) (α : Label) (s : Scan
   detect-kept e = rw e refl
 
   pub detect-joined : passes p α (byCell p (s .cells) α) (s .list) ≡ false
-      → detectG p i run round α s ≡ record { list = join (last α) run round Rule.G (length α) (s .list); cells = maskBoard p (last α) (nodes p i (suc (length α))) (s .cells) }
+      → detectG p i run round α s ≡ record { list = join (last α) run round (Rule.G (length α)) (s .list); cells = maskBoard p (last α) (nodes p i (suc (length α))) (s .cells) }
   unfolding detectG
   detect-joined e = rw e refl

@@ -9,6 +9,7 @@ use listing::listing::as_set;
 use listing::listing::join;
 use plan::plan::Plan;
 use protocol::records::Rule;
+use protocol::records::Slot;
 use schedule::rounds::Round;
 use schedule::rounds::Run;
 use sets::boards::member;
@@ -54,7 +55,7 @@ fn passes(
     level: u8,
     node: u32,
     start: usize,
-    list: u8,
+    list: [Slot; 7],
     cells: &[Value],
 ) -> bool
     requires { ⌜ Visit plan (now holders) level node start (now cells) ⌝ }
@@ -78,9 +79,9 @@ pub fn detect_at(
     round: Round,
     node: u32,
     start: usize,
-    list: u8,
+    list: [Slot; 7],
     cells: &mut [Value],
-) -> u8
+) -> [Slot; 7]
     requires { ⌜ Detects plan (now holders) board round node start (now cells) ⌝ }
     ensures { λ d. ⌜ record { list = d; cells = now (cells .exit) } ≡ detectG plan board run round (nodeAt plan (round .0 - 1) node) (record { list = list; cells = now (cells .entry) }) ⌝ }
 {
@@ -89,5 +90,5 @@ pub fn detect_at(
     }
     let end = last_of(node);
     silence(plan, holders, board, end, round, cells);
-    join(end, run, round, Rule::G, round.0 - 1, list)
+    join(end, run, round, Rule::G(round.0 - 1), list)
 }

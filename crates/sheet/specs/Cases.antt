@@ -14,11 +14,18 @@ use Rattle.settings.specs.Planning.{planning}
 use Rattle.plan.specs.Calls.{planned}
 use Rattle.protocol.specs.Limits.{outputNeeded, cellsNeeded}
 use Rattle.protocol.specs.Nodes.{nodes}
-use Rattle.protocol.specs.Listing.{asSet}
+use Rattle.protocol.specs.declared.records.Rule.{Rule}
+use Rattle.protocol.specs.declared.records.Rule.the-variants as Rule
+use Rattle.protocol.specs.declared.records.Entry.{Entry}
+use Rattle.protocol.specs.declared.records.Entry.the-variants as Entry
+use Rattle.protocol.specs.declared.records.Slot.{Slot}
+use Rattle.protocol.specs.Listing.{noEntries, entryAt, join}
 use Rattle.protocol.specs.Records.{standingAt, withMarks}
 use Rattle.protocol.specs.Rounds.{boardWith, gather}
-use Rattle.protocol.specs.Calls.{beginning, receiving}
-use Rattle.sheet.specs.Playing.{Play, playing, benchPrints}
+use Rattle.protocol.specs.Calls.{beginning, receiving, deciding}
+use Rattle.protocol.specs.Session.{boardAt}
+use Rattle.sheet.specs.Sheet.{reading}
+use Rattle.sheet.specs.Playing.{Play, finalBoards, playing, benchPrints}
 use Rattle.tree.specs.Cells.{blank}
 
 pub data Row : Type 0 where
@@ -35,10 +42,33 @@ pub data Row : Type 0 where
   -- a sheet that is turned down: the line that is printed
   refusedSheet : List ℕ → List ℕ → Row
   -- m, default, list, the values of the dealer's frame, handed in to board 1 of four with that list: what is stored
-  stored : ℕ → ℕ → ℕ → List ℕ → ℕ → Row
+  stored : ℕ → ℕ → List Slot → List ℕ → ℕ → Row
   -- board 2 of five with the sets 03, 05, 09, dealer 0 and m = 16, in round 3, every frame handed in: default, the cells of levels 1 to 3;
-  -- the list and these cells after rule G
-  gathered : ℕ → List ℕ → ℕ → List ℕ → Row
+  -- the log and these cells after rule G
+  gathered : ℕ → List ℕ → List ℕ → List ℕ → Row
+  -- a sheet, a board: its log at the end
+  logged : List ℕ → ℕ → List ℕ → Row
+  -- board 2 of the same plan with the default 0, in round 1, with one entry, of this board with run, round and rule: the number of reading
+  -- its decision
+  entered : ℕ → ℕ → ℕ → Rule → ℕ → Row
+
+-- The log of a list, rising: of each listed board its number, run, round, 47 for G or 43 for C, level. From board r on, k boards.
+unfoldable pub said : ℕ → Entry → List ℕ
+said r Entry.Nothing = []
+said r (Entry.Listed t k (Rule.G level)) = r ∷ t .0 ∷ k .0 ∷ 0x47 ∷ level ∷ []
+said r (Entry.Listed t k (Rule.C level)) = r ∷ t .0 ∷ k .0 ∷ 0x43 ∷ level ∷ []
+
+unfoldable pub log : List Slot → ℕ → ℕ → List ℕ
+log list r zero = []
+log list r (suc k) = said r (entryAt list r) ++ log list (suc r) k
+
+-- A list with one entry.
+unfoldable pub oneEntry : ℕ → ℕ → ℕ → Rule → List Slot
+oneEntry r t k rule = join r (record { 0 = t }) (record { 0 = k }) rule noEntries
+
+-- Five boards with the sets 03, 05, 09, dealer 0 and m = 16, by the default.
+unfoldable pub fivePlan : ℕ → Plan
+fivePlan x = planned 5 (0x03 ∷ 0x05 ∷ 0x09 ∷ []) (record { dealer = 0; span = 16; default = x; depth = 0 })
 
 -- The nodes of levels 1 to k.
 unfoldable pub nodeCount : Plan → ℕ → ℕ
@@ -80,10 +110,14 @@ holds (stored m x list vs c) =
     let b = beginning p 1 (replicate 16 9) .board in
     let r = receiving (boardWith (standingAt p (b .rec .board) (b .rec .run) (b .rec .round) list) (b .cells)) 0 vs in
     eqb (r .answer .number) 0 && eqb (getD (r .board .cells) 0 blank) c
-holds (gathered x cells list after) =
-    let p = planned 5 (0x03 ∷ 0x05 ∷ 0x09 ∷ []) (record { dealer = 0; span = 16; default = x; depth = 0 }) in
-    let s = gather (boardWith (withMarks (standingAt p 2 (record { 0 = 1 }) (record { 0 = 3 }) 0) 0x1A) (cells ++ replicate 48 9)) in
-    eqb (asSet (s .list)) list && sameList (s .cells) (after ++ replicate 48 9)
+holds (gathered x cells entries after) =
+    let s = gather (boardWith (withMarks (standingAt (fivePlan x) 2 (record { 0 = 1 }) (record { 0 = 3 }) noEntries) 0x1A) (cells ++ replicate 48 9)) in
+    sameList (log (s .list) 0 7) entries && sameList (s .cells) (after ++ replicate 48 9)
+holds (logged text i entries) =
+    let r = reading text in
+    eqb (r .answer .number) 0 && sameList (log (boardAt (finalBoards (r .head) (r .frames) lentCells) i .rec .list) 0 7) entries
+holds (entered q t k rule number) =
+    eqb (deciding (standingAt (fivePlan 0) 2 (record { 0 = 1 }) (record { 0 = 1 }) (oneEntry q t k rule)) .number) number
 
 unfoldable pub allHold : List Row → Bool
 allHold [] = true
@@ -118,6 +152,10 @@ bareHead n f = headLine n 0x30 0x30 (0x30 ∷ 0x30 ∷ []) f
 unfoldable pub laterHead : ℕ → List ℕ
 laterHead f = headLine 0x34 0x30 0x30 (0x30 ∷ 0x35 ∷ 0x30 ∷ 0x38 ∷ 0x30 ∷ 0x31 ∷ 0x30 ∷ 0x31 ∷ 0x30 ∷ 0x32 ∷ 0x30 ∷ 0x34 ∷ []) f
 
+-- Five boards, the sets 03, 05, 09 and F = 03.
+unfoldable pub fiveHead : List ℕ
+fiveHead = headLine 0x35 0x30 0x30 (0x30 ∷ 0x33 ∷ 0x30 ∷ 0x33 ∷ 0x30 ∷ 0x35 ∷ 0x30 ∷ 0x39 ∷ []) 0x33
+
 unfoldable pub pairHead : ℕ → List ℕ
 pairHead f = headLine 0x34 0x30 0x30 (0x30 ∷ 0x32 ∷ 0x30 ∷ 0x30 ∷ 0x30 ∷ 0x39 ∷ []) f
 
@@ -130,9 +168,13 @@ dealerLine i v =
 unfoldable pub misfitLine : ℕ → List ℕ
 misfitLine i = 0x30 ∷ 0x31 ∷ 0x30 ∷ 0x31 ∷ 0x30 ∷ 0x30 ∷ 0x30 ∷ i ∷ 0x30 ∷ 0x39 ∷ 0x30 ∷ 0x39 ∷ 0x0A ∷ []
 
--- 010203, a receiver's digits, and a value's digits, and a newline: a frame of board 3 in round 2.
+-- 0102, a sender's digits, a receiver's digits, and a value's digits, and a newline: a frame of one value in round 2.
+unfoldable pub secondLine : ℕ → ℕ → ℕ → List ℕ
+secondLine q i v = 0x30 ∷ 0x31 ∷ 0x30 ∷ 0x32 ∷ 0x30 ∷ q ∷ 0x30 ∷ i ∷ 0x30 ∷ v ∷ 0x0A ∷ []
+
+-- One of board 3.
 unfoldable pub liarLine : ℕ → ℕ → List ℕ
-liarLine i v = 0x30 ∷ 0x31 ∷ 0x30 ∷ 0x32 ∷ 0x30 ∷ 0x33 ∷ 0x30 ∷ i ∷ 0x30 ∷ v ∷ 0x0A ∷ []
+liarLine i v = secondLine 0x33 i v
 
 -- 0102030109 and a newline.
 unfoldable pub liar9 : List ℕ
@@ -205,8 +247,8 @@ caseTable =
     ∷ refusedSheet [] (0x46 ∷ 0x46 ∷ 0x31 ∷ 0x36 ∷ 0x30 ∷ 0x30 ∷ 0x30 ∷ 0x31 ∷ 0x0A ∷ [])
     ∷ refusedSheet (head9 ++ (liar9 ++ liar9)) (0x46 ∷ 0x46 ∷ 0x31 ∷ 0x38 ∷ 0x30 ∷ 0x30 ∷ 0x30 ∷ 0x33 ∷ 0x0A ∷ [])
     -- 10
-    ∷ stored 16 0 0x00 (0x0F ∷ []) 0x0F
-    ∷ stored 16 0 0x00 (0x10 ∷ []) 0
+    ∷ stored 16 0 noEntries (0x0F ∷ []) 0x0F
+    ∷ stored 16 0 noEntries (0x10 ∷ []) 0
     -- 02 a, no sets: n = 1 prints 00050000; n = 4 prints 00050000, 01050000, 02050000, 03050000; F = 01 is turned down, FF170001
     ∷ admit 1 [] 0 []
     ∷ admit 4 [] 0 []
@@ -224,15 +266,15 @@ caseTable =
     ∷ sheet (fourHead 0x30 0x37 0x31 ++ (dealerLine 0x31 0x35 ++ (dealerLine 0x32 0x36 ++ dealerLine 0x33 0x39))) (sevenLines 0x31) sevenParts
     ∷ sheet (fourHead 0x30 0x37 0x31 ++ (dealerLine 0x31 0x35 ++ (misfitLine 0x32 ++ misfitLine 0x33))) (sevenLines 0x30) sevenParts
     -- a value below m, one of m, a misfit frame, a frame of a listed board
-    ∷ stored 16 7 0x00 (0x0F ∷ []) 0x0F
-    ∷ stored 16 7 0x00 (0x10 ∷ []) 7
-    ∷ stored 16 7 0x00 (0x05 ∷ 0x05 ∷ []) 7
-    ∷ stored 16 7 0x01 (0x05 ∷ []) 7
+    ∷ stored 16 7 noEntries (0x0F ∷ []) 0x0F
+    ∷ stored 16 7 noEntries (0x10 ∷ []) 7
+    ∷ stored 16 7 noEntries (0x05 ∷ 0x05 ∷ []) 7
+    ∷ stored 16 7 (oneEntry 0 1 2 (Rule.G 1)) (0x05 ∷ []) 7
     -- a masked board: nodes 0 1 2, 0 1 3 and 0 1 4 have 7, 7 and 5, so board 1 is listed, and 0 2 1 and 0 3 1 become the default, 6
-    ∷ gathered 6 (5 ∷ 7 ∷ 5 ∷ 7 ∷ 5 ∷ 7 ∷ 7 ∷ 5 ∷ 9 ∷ 5 ∷ 5 ∷ 9 ∷ 7 ∷ 7 ∷ 9 ∷ 9 ∷ 9 ∷ []) 0x02
+    ∷ gathered 6 (5 ∷ 7 ∷ 5 ∷ 7 ∷ 5 ∷ 7 ∷ 7 ∷ 5 ∷ 9 ∷ 5 ∷ 5 ∷ 9 ∷ 7 ∷ 7 ∷ 9 ∷ 9 ∷ 9 ∷ []) (1 ∷ 1 ∷ 3 ∷ 0x47 ∷ 2 ∷ [])
     (5 ∷ 7 ∷ 5 ∷ 7 ∷ 5 ∷ 7 ∷ 7 ∷ 5 ∷ 6 ∷ 5 ∷ 5 ∷ 6 ∷ 7 ∷ 7 ∷ 9 ∷ 9 ∷ 9 ∷ [])
     -- a cell of m: 0 3 holds 16, and board 2 copies the default, 6, to its child 0 3 2
-    ∷ gathered 6 (5 ∷ 5 ∷ 5 ∷ 0x10 ∷ 5 ∷ 5 ∷ 5 ∷ 5 ∷ 5 ∷ 5 ∷ 5 ∷ 6 ∷ 9 ∷ 6 ∷ 9 ∷ 9 ∷ 9 ∷ []) 0x00
+    ∷ gathered 6 (5 ∷ 5 ∷ 5 ∷ 0x10 ∷ 5 ∷ 5 ∷ 5 ∷ 5 ∷ 5 ∷ 5 ∷ 5 ∷ 6 ∷ 9 ∷ 6 ∷ 9 ∷ 9 ∷ 9 ∷ []) []
     (5 ∷ 5 ∷ 5 ∷ 0x10 ∷ 5 ∷ 5 ∷ 5 ∷ 5 ∷ 5 ∷ 5 ∷ 5 ∷ 6 ∷ 6 ∷ 6 ∷ 9 ∷ 9 ∷ 9 ∷ [])
     -- 26 after 7, before 8, and a default of m - 1; a sheet with a default of m, FF1A0001
     ∷ refuse 4 (0x01 ∷ 0x02 ∷ 0x04 ∷ 0x08 ∷ []) 0 1 1 0 7
@@ -250,4 +292,26 @@ caseTable =
     ∷ sheet (pairHead 0x38 ++ (liarLine 0x31 0x35 ++ liarLine 0x32 0x37))
     (placedLine 0x30 0x35 0x30 0x30 ++ (placedLine 0x31 0x35 0x38 0x31 ++ placedLine 0x32 0x35 0x38 0x31))
     fiveParts
+    -- 02 d, entries. 8: board 1 lists the dealer in run 1 and round 2, by rule G at level 1
+    ∷ logged (head7 ++ (dealerLine 0x31 0x35 ++ (dealerLine 0x32 0x37 ++ dealerLine 0x33 0x39))) 1 (0 ∷ 1 ∷ 2 ∷ 0x47 ∷ 1 ∷ [])
+    -- 9: nobody is listed
+    ∷ logged (head9 ++ liar9) 1 []
+    -- five boards; the dealer tells board 3 another value, and board 1 tells each another one: in round 3 board 2 lists board 1 by rule G at
+    -- level 2, and the dealer by rule C at level 1: 0 1 resolves to 9 and 0 3 to 7, and boards 1 and 3 are no tolerated set
+    ∷ logged (fiveHead ++ (dealerLine 0x32 0x35 ++ (dealerLine 0x33 0x37 ++ (dealerLine 0x34 0x35
+    ++ (secondLine 0x31 0x32 0x35 ++ (secondLine 0x31 0x33 0x38 ++ secondLine 0x31 0x34 0x39)))))) 2 (0 ∷ 1 ∷ 3 ∷ 0x43 ∷ 1 ∷ (1 ∷ 1 ∷ 3 ∷ 0x47 ∷ 2 ∷ []))
+    -- number 12: R is 3, and there is one run. Levels 1 and 2, also where the rule would not have them; then 0 and 3, a run or a round
+    -- that the plan lacks, and board 5
+    ∷ entered 4 1 3 (Rule.G 2) 19
+    ∷ entered 0 1 3 (Rule.G 1) 19
+    ∷ entered 0 1 1 (Rule.C 1) 19
+    ∷ entered 0 1 2 (Rule.G 0) 12
+    ∷ entered 0 1 3 (Rule.G 3) 12
+    ∷ entered 0 1 3 (Rule.C 0) 12
+    ∷ entered 0 1 3 (Rule.C 3) 12
+    ∷ entered 0 2 3 (Rule.C 1) 12
+    ∷ entered 0 0 3 (Rule.C 1) 12
+    ∷ entered 0 1 4 (Rule.G 2) 12
+    ∷ entered 0 1 0 (Rule.G 1) 12
+    ∷ entered 5 1 3 (Rule.G 2) 12
     ∷ []

@@ -32,7 +32,7 @@ noRecord = record {
   board = 0;
   run = record { 0 = 0 };
   round = record { 0 = 0 };
-  list = 0;
+  list = [];
   marks = 0;
   decided = false;
   decision = 0;

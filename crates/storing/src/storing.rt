@@ -7,6 +7,7 @@ use internal::node::index_of;
 use levels::levels::level_start;
 use listing::listing::as_set;
 use plan::plan::Plan;
+use protocol::records::Slot;
 use sets::boards::member;
 use tree::nodes::child_index;
 ghost use mathlib.Core.Path.{_≡_};
@@ -45,7 +46,7 @@ pub fn store_frame(
     plan: Plan,
     level: u8,
     q: u8,
-    list: u8,
+    list: [Slot; 7],
     nodes: &[u32],
     frame: &[u8],
     cells: &mut [Value],

@@ -24,7 +24,9 @@ use Rattle.tree.specs.Places.{cellCount}
 use Rattle.tree.specs.Cells.{cellAt}
 use Rattle.protocol.proofs.Listing.{insert-below}
 use Rattle.protocol.proofs.Bounds.{read-small}
+use Rattle.protocol.specs.declared.records.Slot.{Slot}
 use Rattle.protocol.specs.declared.records.Record.{Record}
+use Rattle.protocol.specs.Listing.{asSet}
 use Rattle.protocol.specs.Records.{withMarks}
 use Rattle.protocol.specs.Nodes.{read, nodes, sent, due, frame}
 use Rattle.protocol.specs.Rounds.{boardWith, Board, fill, counted, receive, fillMissing, copyOwn}
@@ -42,7 +44,7 @@ isGiven none = false
 isGiven (some f) = true
 
 -- Board i of plan p, in round k with this list, is told msg.
-module _ (p : Plan) (i : ℕ) (k : Round) (list : ℕ) (msg : ℕ → Option (List ℕ)) where
+module _ (p : Plan) (i : ℕ) (k : Round) (list : List Slot) (msg : ℕ → Option (List ℕ)) where
   -- A frame of q is taken.
   unfoldable pub accepts : ℕ → Bool
   accepts q = due p q i k && isGiven (msg q)
@@ -91,7 +93,7 @@ marked-good r g t h = record {
   below = g .below;
   other = g .other;
   position = g .position;
-  list-below = g .list-below;
+  list-good = g .list-good;
   marks-below = h;
   decision-below = g .decision-below;
 }
@@ -307,7 +309,7 @@ module _ (r : Record) (g : Good r) (undecided : r .decided ≡ false) (msg : ℕ
         (rw (heard-length r g undecided msg cells room (P₀ .n)) room) d (marks-at (r .plan) (r .board) (r .round) (r .list) msg (P₀ .n) q lq ∙ a)
 
     -- A listed board counts as silent.
-    pub silenced : q ≢ r .board → due P₀ q (r .board) (r .round) ≡ true → member q (r .list) ≡ true → read P₀ filled (q ∷ α) ≡ default P₀
+    pub silenced : q ≢ r .board → due P₀ q (r .board) (r .round) ≡ true → member q (asSet (r .list)) ≡ true → read P₀ filled (q ∷ α) ≡ default P₀
     unfolding read content
     silenced ne d on =
         let αs = sent P₀ q (r .board) (r .round) in
@@ -318,7 +320,7 @@ module _ (r : Record) (g : Good r) (undecided : r .decided ≡ false) (msg : ℕ
         (λ a. ap (value P₀) (missed-cell ne d a) ∙ value-default P₀)
 
     -- The frame of a board that is not listed, of the right length, is what is read.
-    pub delivered : (f : Label → ℕ) → q ≢ r .board → due P₀ q (r .board) (r .round) ≡ true → member q (r .list) ≡ false
+    pub delivered : (f : Label → ℕ) → q ≢ r .board → due P₀ q (r .board) (r .round) ≡ true → member q (asSet (r .list)) ≡ false
         → msg q ≡ some (map f (sent P₀ q (r .board) (r .round))) → f α < P₀ .span → read P₀ filled (q ∷ α) ≡ f α
     unfolding read accepts isGiven content counted
     delivered f ne d out e small =

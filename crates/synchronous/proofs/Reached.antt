@@ -1,6 +1,6 @@
 -- Boards that were begun and called: their records stay good, and a place with no value yet, or no node, holds FF.
 -- Assumes nothing.
-use Prim.Native.Nat.{ℕ, zero, suc, _+_, _-_, _≤_, _<_, _^_}
+use Prim.Native.Nat.{ℕ, zero, suc, _+_, _-_, _≤_, _<_}
 use mathlib.Core.Path.{_≡_, refl, sym, _∙_, ap, subst}
 use mathlib.Core.Logic.{_≢_, _⊎_, inl, inr, ⊎-elim}
 use mathlib.Core.Bool.{true, false, cond}
@@ -33,8 +33,8 @@ use Rattle.protocol.proofs.Nodes.{sent-node, node-label, node-length, root-node
 use Rattle.protocol.proofs.Fill.{IsLabel, fill-other, fill-length}
 use Rattle.synchronous.proofs.Local.{gather-outside, gather-length}
 use Rattle.protocol.proofs.Judgement.{is-taken, taken-is, plan-default, Good, good-dealer, Open, open-facts, cells-facts, board-facts}
-use Rattle.protocol.proofs.Listing.{insert-below}
-use Rattle.protocol.proofs.Bounds.{gather-below, levels-below, root-small}
+use Rattle.protocol.proofs.Listing.{insert-below, GoodList, none-good}
+use Rattle.protocol.proofs.Bounds.{gather-good, levels-good, root-small}
 use Rattle.protocol.proofs.Turns.{frame-stored, decides-root, begun-length, begun-blank}
 use Rattle.protocol.proofs.Taken.{taking-taken, taking-refused, closing-taken, due-sender, receiving-facts, closing-refused}
 
@@ -52,7 +52,7 @@ fresh-good p i e l ne = record {
     round-later = λ x. absurd (x refl);
     round-high = rounds-pos p;
   };
-  list-below = pow-pos (p .n);
+  list-good = none-good p;
   marks-below = pow-pos (p .n);
   decision-below = λ x. clash x refl;
 }
@@ -64,12 +64,12 @@ receive-good q f b g l = record {
   below = g .below;
   other = g .other;
   position = g .position;
-  list-below = g .list-below;
+  list-good = g .list-good;
   marks-below = insert-below (b .rec .plan .n) q (b .rec .marks) l (g .marks-below);
   decision-below = g .decision-below;
 }
 
-pub next-good : (b : Board) (s : Scan) → Good (b .rec) → s .list < 2 ^ b .rec .plan .n → b .rec .round .0 < rounds (b .rec .plan) .0
+pub next-good : (b : Board) (s : Scan) → Good (b .rec) → GoodList (b .rec .plan) (s .list) → b .rec .round .0 < rounds (b .rec .plan) .0
     → Good (nextRound b s .rec)
 unfolding nextRound
 next-good b s g d l = record {
@@ -83,17 +83,17 @@ next-good b s g d l = record {
     round-later = λ x. omega (arith, g .position .round-low);
     round-high = omega arith;
   };
-  list-below = d;
+  list-good = d;
   marks-below = pow-pos (b .rec .plan .n);
   decision-below = λ x. clash x refl;
 }
 
-pub convert-good : (b : Board) (s : Scan) → Good (b .rec) → s .list < 2 ^ b .rec .plan .n → Good (convert b s .rec)
+pub convert-good : (b : Board) (s : Scan) → Good (b .rec) → GoodList (b .rec .plan) (s .list) → Good (convert b s .rec)
 unfolding convert runEnded
 convert-good b s g d =
     let r = b .rec in
     let p = r .plan in
-    let listed-below = levels-below p (good-dealer r g) (r .board) (r .run) (r .round) (s .cells) (rounds p .0 - 1) (s .list) d in
+    let listed-good = levels-good p (good-dealer r g) (r .board) (r .run) (r .round) (g .position) (s .cells) (rounds p .0 - 1) (s .list) d in
     cases (eqb (r .run .0) (runs p .0))
     (λ e. let small : convert b s .rec .decision < p .span =
     subst {A = ℕ} (λ v. v < p .span) (sym (decides-root b s e)) (root-small p (plan-default p (g .plan-good)) (r .board) (s .cells)) in
@@ -102,7 +102,7 @@ convert-good b s g d =
       below = g .below;
       other = g .other;
       position = g .position;
-      list-below = listed-below;
+      list-good = listed-good;
       marks-below = pow-pos (p .n);
       decision-below = λ _. rw e at small;
     }))
@@ -118,7 +118,7 @@ convert-good b s g d =
         round-later = λ _. omega arith;
         round-high = later-rounds p (g .plan-good) (omega (arith, g .position .run-high, g .position .run-low));
       };
-      list-below = listed-below;
+      list-good = listed-good;
       marks-below = pow-pos (p .n);
       decision-below = λ x. clash x refl;
     }))
@@ -126,7 +126,8 @@ convert-good b s g d =
 pub close-good : (b : Board) → Good (b .rec) → Good (close b .rec)
 unfolding close
 close-good b g =
-    let d = gather-below b (good-dealer (b .rec) g) (g .list-below) in
+    let r = b .rec in
+    let d = gather-good b (good-dealer r g) (g .position) (g .list-good) in
     cases (ltb (b .rec .round .0) (rounds (b .rec .plan) .0))
     (λ e. rw e (next-good b (gather b) g d (ltb-true (b .rec .round .0) (rounds (b .rec .plan) .0) e)))
     (λ e. rw e (convert-good b (gather b) g d))

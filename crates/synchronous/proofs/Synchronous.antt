@@ -13,7 +13,6 @@ use lib.ListN.{length}
 use borrow.Author.Tests.{eqb-false, ne-eqb, ltb-true, ltb-false, lt-ltb, le-ltb, eqb-true}
 use Rattle.sets.specs.Sets.{member}
 use Rattle.sets.proofs.Tests.{cases, and-l, and-r, not-t}
-use Rattle.refusals.specs.Outcome.{andThen}
 use Rattle.refusals.proofs.Outcomes.{taken-first}
 use Rattle.plan.specs.declared.plan.Plan.{Plan}
 use Rattle.plan.specs.Calls.{judged}
@@ -23,6 +22,7 @@ use Rattle.schedule.specs.Schedule.{rounds, runs, steps, step, stepRun, stepRou
 use Rattle.schedule.proofs.Steps.{Has, run-split, run-of-step, round-of-step, step-has, step-of-round, later-rounds}
 use Rattle.schedule.proofs.Levels.{rounds-pos, runs-pos}
 use Rattle.tree.specs.Places.{cellCount}
+use Rattle.protocol.specs.declared.records.Slot.{Slot}
 use Rattle.protocol.specs.declared.records.Record.{Record}
 use Rattle.protocol.specs.Records.{standingAt, runEnded, withMarks}
 use Rattle.protocol.specs.Rounds.{boardWith, Board, gather, nextRound, convert, close, cleared}
@@ -102,7 +102,7 @@ module _ (s : Setting) (a : Adversary) (sound : Sound s) where
   plan = s .plan
 
   -- The record of board i in step j, counted from 0, with a list.
-  abbrev pub canon : ℕ → ℕ → ℕ → Record
+  abbrev pub canon : ℕ → ℕ → List Slot → Record
   canon i j list = standingAt plan i (stepRun plan (suc j)) (stepRound plan (suc j)) list
 
   pub record Standing (j i : ℕ) : Type 0 where
@@ -119,16 +119,19 @@ module _ (s : Setting) (a : Adversary) (sound : Sound s) where
       let rest = and-r b (f && d) e in
       (ltb-true i (plan .n) (and-l b (f && d) e), not-t (member i (s .faulty)) (and-l f d rest), eqb-false i (plan .dealer) (not-t (eqb i (plan .dealer)) (and-r f d rest)))
 
+  -- A board that keeps cells was begun.
+  pub begins : (i : ℕ) → keeper s i ≡ true → judgeBeginning plan i (s .buffer i) .number ≡ 0
+  unfolding judgeBeginning
+  begins i k =
+      let (l, _, ne) = keeper-facts i k in
+      ap (λ o. o .number) (taken-first (judged plan) _ (sound .accepted) ∙ taken-first (judgeBoard plan i) _ (ap (λ o. o .number) (board-taken plan i l ne))
+      ∙ cells-taken plan (s .buffer i) (sound .cells-enough i k))
+
   -- Board i as its beginning left it.
   pub begun-shape : (i : ℕ) → keeper s i ≡ true
       → begun s i ≡ boardWith (freshRecord plan i) (cleared (plan .n) (s .buffer i))
-  unfolding begun beginning judgeBeginning andThen
-  begun-shape i k =
-      let (l, _, ne) = keeper-facts i k in
-      let e : judgeBeginning plan i (s .buffer i) .number ≡ 0 =
-      ap (λ o. o .number) (taken-first (judged plan) _ (sound .accepted) ∙ taken-first (judgeBoard plan i) _ (ap (λ o. o .number) (board-taken plan i l ne))
-      ∙ cells-taken plan (s .buffer i) (sound .cells-enough i k)) in
-      rw (taken-is (judgeBeginning plan i (s .buffer i)) e)
+  unfolding begun beginning
+  begun-shape i k = rw (taken-is (judgeBeginning plan i (s .buffer i)) (begins i k))
 
   first-position : (stepRun plan 1 ≡ record { 0 = 1 }) × (stepRound plan 1 ≡ record { 0 = 1 })
   unfolding step
@@ -154,7 +157,7 @@ module _ (s : Setting) (a : Adversary) (sound : Sound s) where
       let b : Board = boardWith (freshRecord plan i) cells in
       record {
         shape = subst (λ x. x .rec ≡ canon i 0 (x .rec .list)) (sym e)
-            (ap₂ (λ (t : Run) (q : Round). standingAt plan i t q 0) (sym (first-position .0)) (sym (first-position .1)));
+            (ap₂ (λ (t : Run) (q : Round). standingAt plan i t q (freshRecord plan i .list)) (sym (first-position .0)) (sym (first-position .1)));
         good = subst (λ x. Good (x .rec)) (sym e) (fresh-good plan i (sound .accepted) l ne);
         room = subst (λ x. cellCount (plan .n) ≤ length (x .cells)) (sym e)
             (rw (begun-length (plan .n) (s .buffer i) (sound .cells-enough i k)) (sound .cells-enough i k));
@@ -206,7 +209,7 @@ module _ (s : Setting) (a : Adversary) (sound : Sound s) where
     unfolding close
     close-last l = rw (le-ltb (stepRound plan (suc j) .0) (rounds plan .0) l)
 
-    same-record : (list : ℕ) {t t′ : Run} {q q′ : Round} → t ≡ t′ → q ≡ q′ → standingAt plan i t q list ≡ standingAt plan i t′ q′ list
+    same-record : (list : List Slot) {t t′ : Run} {q q′ : Round} → t ≡ t′ → q ≡ q′ → standingAt plan i t q list ≡ standingAt plan i t′ q′ list
     same-record list e f = ap₂ (λ (t : Run) (q : Round). standingAt plan i t q list) e f
 
     -- Where a step follows the last round of a run, so does a run.

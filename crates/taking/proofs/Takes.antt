@@ -17,6 +17,7 @@ use Rattle.refusals.specs.Outcome.{Outcome, taken, refused}
 use Rattle.tree.specs.Labels.{Label}
 use Rattle.protocol.specs.Nodes.{carried, sent, due}
 use Rattle.protocol.specs.Rounds.{fill, counted}
+use Rattle.protocol.specs.declared.records.Slot.{Slot}
 use Rattle.protocol.specs.Calls.{isTaken}
 use Rattle.frames.specs.Nodes.{Standing}
 use Rattle.frames.proofs.Listed.{sent-carried}
@@ -26,7 +27,7 @@ use Rattle.first_round.proofs.Takes.{takes-none, takes-again, takes-new}
 
 -- In round 1 the dealer's frame is the one that is due.
 module _ {p : Plan} {holders : List ℕ} {i : ℕ} {k : Round} (s : Standing p holders i k) (one : k .0 ≡ 1) (q : ℕ) (l : q < p .n) where
-  pub takes-word : (list marks : ℕ) (f before : List ℕ) (o : Outcome) (after : List ℕ)
+  pub takes-word : (list : List Slot) (marks : ℕ) (f before : List ℕ) (o : Outcome) (after : List ℕ)
       → Takes p q list marks (eqb q (p .dealer)) ([] ∷ []) f before o after
       → Takes p q list marks (due p q i k) (sent p q i k) f before o after
   unfolding isTaken
@@ -39,7 +40,7 @@ module _ {p : Plan} {holders : List ℕ} {i : ℕ} {k : Round} (s : Standing p h
 
 -- In a later round one is due that carries a node.
 module _ {p : Plan} {holders : List ℕ} {i : ℕ} {k : Round} (s : Standing p holders i k) (later : 2 ≤ k .0) (q : ℕ) (l : q < p .n) (ne : q ≢ i)
-    (list marks : ℕ) (f before : List ℕ) (count : ℕ) (e : count ≡ length (carried p q i (k .0 - 1))) where
+    (list : List Slot) (marks : ℕ) (f before : List ℕ) (count : ℕ) (e : count ≡ length (carried p q i (k .0 - 1))) where
   due-later : due p q i k ≡ ltb 0 count
   due-later = due-is s q l ne ∙ ap (λ αs. ltb 0 (length αs)) (sent-carried s later q) ∙ ap (ltb 0) (sym e)
 

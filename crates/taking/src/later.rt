@@ -2,6 +2,7 @@
 use codec::value::Value;
 use plan::plan::Plan;
 use protocol::limits::VALUES;
+use protocol::records::Slot;
 use refusals::refusal::Refusal;
 use refusals::refusal::Verdict;
 use schedule::rounds::Round;
@@ -20,7 +21,7 @@ pub fn take_later(
     holders: &[u8],
     board: u8,
     round: Round,
-    list: u8,
+    list: [Slot; 7],
     marks: u8,
     q: u8,
     frame: &[u8],

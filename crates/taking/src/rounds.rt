@@ -3,6 +3,7 @@ use crate::later::take_later;
 use codec::value::Value;
 use first_round::word::take_word;
 use plan::plan::Plan;
+use protocol::records::Slot;
 use refusals::refusal::Refusal;
 use refusals::refusal::Verdict;
 use schedule::rounds::Round;
@@ -18,7 +19,7 @@ pub fn take(
     plan: Plan,
     board: u8,
     round: Round,
-    list: u8,
+    list: [Slot; 7],
     marks: u8,
     q: u8,
     frame: &[u8],

@@ -11,6 +11,7 @@ pub mod Cells
 pub mod Within
 pub mod Boards
 pub mod Descent
+pub mod Collect
 pub mod ChildIndex
 pub mod NodePlaces
 pub mod Parts

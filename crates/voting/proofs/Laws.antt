@@ -21,6 +21,8 @@ use Rattle.plan.specs.Listed.{listed}
 use Rattle.plan.specs.Calls.{judged}
 use Rattle.tree.specs.Labels.{Label, occurs, mask}
 use Rattle.tree.proofs.Masks.{mask-member}
+use Rattle.protocol.specs.declared.records.Slot.{Slot}
+use Rattle.protocol.specs.Listing.{asSet}
 use Rattle.protocol.specs.Detection.{vote, explained}
 use Rattle.protocol.proofs.Tolerance.{setOf-same, tol, tol-q3, tol-path}
 use Rattle.protocol.proofs.Judgement.{plan-facts}
@@ -119,17 +121,19 @@ module _ (p : Plan) (α : Label) (f : ℕ → Option ℕ) (list : ℕ) where
       (is-true (same (f i) (some v)) (λ e. clash (and-true (not (occurs i α)) (not (same (f i) (some v))) o (true-not (same (f i) (some v)) e))
       (or-l (not (occurs i α) && not (same (f i) (some v))) (member i list) x))))
 
-  -- Both rules: it is enough to try the children's own values.
-  pub explained-table : judged p .number ≡ 0 → p .span ≤ 255 → tolerated (listed p) (mask α) ≡ true → ((i : ℕ) → occurs i α ≡ true → i < p .n)
-      → explained p α f list ≡ explainedBy p (mask α) (childTable f (mask α) (p .n)) list
-  unfolding explained explainedBy
-  explained-table good m inner below =
-      let b : p .n ≤ 8 = omega (arith, plan-facts p good .admission .most-boards) in
-      let g = explains p (mask α) (tableOf p α f) list in
-      same-test (any (fits p α f list) (p .span)) (any g (p .n))
-      (λ e. let (v, l, t) = any-true (fits p α f list) (p .span) e in
-      let (c, lc, a) = any-true (agrees α f v) (p .n) (some-child good inner below v t) in
-      any-of g (p .n) c lc (own-explains b m v c l t lc a))
-      (λ e. let (c, lc, t) = any-true g (p .n) e in
-      let (l, s) = explains-own b m c t in
-      any-of (fits p α f list) (p .span) (at (tableOf p α f) c) l s)
+-- Both rules: it is enough to try the children's own values.
+pub explained-table : (p : Plan) (α : Label) (f : ℕ → Option ℕ) (list : List Slot) → judged p .number ≡ 0 → p .span ≤ 255
+    → tolerated (listed p) (mask α) ≡ true → ((i : ℕ) → occurs i α ≡ true → i < p .n)
+    → explained p α f list ≡ explainedBy p (mask α) (childTable f (mask α) (p .n)) (asSet list)
+unfolding explained explainedBy
+explained-table p α f list good m inner below =
+    let b : p .n ≤ 8 = omega (arith, plan-facts p good .admission .most-boards) in
+    let s = asSet list in
+    let g = explains p (mask α) (tableOf p α f) s in
+    same-test (any (fits p α f s) (p .span)) (any g (p .n))
+    (λ e. let (v, l, t) = any-true (fits p α f s) (p .span) e in
+    let (c, lc, a) = any-true (agrees α f v) (p .n) (some-child p α f s good inner below v t) in
+    any-of g (p .n) c lc (own-explains p α f s b m v c l t lc a))
+    (λ e. let (c, lc, t) = any-true g (p .n) e in
+    let (l, x) = explains-own p α f s b m c t in
+    any-of (fits p α f s) (p .span) (at (tableOf p α f) c) l x)

@@ -22,7 +22,7 @@ use Rattle.plan.specs.Listed.{listed}
 use Rattle.tree.specs.Cells.{blank}
 use Rattle.voting.specs.Worth.{worth}
 use Rattle.voting.specs.Tables.{at, agreeing, elected, voted}
-use Rattle.voting.proofs.Collect.{setOf-none}
+use Rattle.tree.proofs.Collect.{setOf-none}
 
 module _ (f : ℕ → Bool) (k : ℕ) where
   only-none : ((v : ℕ) → v < k → f v ≡ false) → only f k ≡ none

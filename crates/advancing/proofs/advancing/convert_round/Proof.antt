@@ -21,7 +21,8 @@ convert-cells-requires c κs =
 
 keep-root-requires : tie.Need-keep-root-requires
 keep-root-requires c κs =
-    let made = c .before .before .before in
+    let found = c .before in
+    let made = found .before .before .before in
     let called = made .before .before in
     let e = called .before .before in
     record {
@@ -33,8 +34,8 @@ returns : tie.Need-returns
 unfolding convert
 returns c =
     let kept = c .before .before .before in
-    let known = kept .before .before in
-    let made = known .before .before in
+    let found = kept .before .before in
+    let made = found .before .before .before in
     let called = made .before .before in
     let e = called .before .before in
     let a = e .args in

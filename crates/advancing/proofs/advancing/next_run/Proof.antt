@@ -7,7 +7,6 @@ use borrow.Author.Needs.{needs}
 use borrow.Author.Tests.{eq-eqb, ne-eqb}
 use Rattle.schedule.specs.declared.rounds.Run.{Run}
 use Rattle.protocol.specs.Records.{runEnded}
-use Rattle.protocol.specs.Rounds.{}
 use Rattle.protocol.proofs.Judgement.{good-record}
 use Rattle.advancing.proofs.advancing.next_run.Statement.{statement}
 use Rattle.advancing.proofs.advancing.next_run.Tie as tie

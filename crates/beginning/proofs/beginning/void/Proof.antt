@@ -1,6 +1,6 @@
 -- `void` meets its contract.
 -- Assumes nothing.
-use mathlib.Core.Path.{ap}
+use mathlib.Core.Path.{ap₂}
 use mathlib.Core.Bool.{false}
 use borrow.Author.Needs.{needs}
 use Rattle.protocol.specs.Calls.{voidRecord}
@@ -9,7 +9,9 @@ use Rattle.beginning.proofs.beginning.void.Tie as tie
 
 returns : tie.Need-returns
 unfolding voidRecord
-returns c = ap (λ p. record { plan = p; board = 0; run = record { 0 = 0 }; round = record { 0 = 0 }; list = 0; marks = 0; decided = false; decision = 0 }) (c .void .ensures)
+returns c =
+    ap₂ (λ p list. record { plan = p; board = 0; run = record { 0 = 0 }; round = record { 0 = 0 }; list = list; marks = 0; decided = false; decision = 0 })
+    (c .before .void .ensures) (c .no-entries .ensures)
 
 pub void-spec : {M : Type 1} → statement M
-void-spec = tie.close (tie.spec (λ c κs. search needs) returns)
+void-spec = tie.close (tie.spec (λ c κs. search needs) (λ c κs. search needs) returns)

@@ -5,6 +5,7 @@ use mathlib.Core.Path.{_≡_, sym, ap, ap₂, _∙_, subst}
 use mathlib.Core.Bool.{true, false}
 use borrow.Author.Needs.{needs}
 use Rattle.sets.specs.Sets.{member}
+use Rattle.protocol.specs.Listing.{asSet}
 use Rattle.voting.specs.Tables.{explainedBy}
 use Rattle.children.specs.Standing.{Beside}
 use Rattle.children.proofs.Reading.{passes-listed, passes-explained}
@@ -16,7 +17,7 @@ returns c =
     let x = c .before .before in
     let set = x .before in
     let a = set .before .before .before .args in
-    let on : member (a.node / 128 % 8) a.list ≡ true =
+    let on : member (a.node / 128 % 8) (asSet a.list) ≡ true =
     ap₂ member (sym (x .last-of .ensures)) (sym (set .as-set .ensures)) ∙ sym (c .before .member .ensures) ∙ c .if1 .taken in
     passes-listed a.plan (a.cells .now) a.from a.node a.list on
 
@@ -35,7 +36,7 @@ returns-2 c =
     let asks = x .before in
     let set = asks .before in
     let a = set .before .before .before .args in
-    let out : member (a.node / 128 % 8) a.list ≡ false =
+    let out : member (a.node / 128 % 8) (asSet a.list) ≡ false =
     ap₂ member (sym (asks .last-of .ensures)) (sym (set .as-set .ensures)) ∙ sym (x .member .ensures) ∙ y .before .if1 .left in
     c .explained-by .ensures
     ∙ ap (explainedBy a.plan (y .boards-of .result) (c .before .child-cells .result)) (set .as-set .ensures)

@@ -15,7 +15,7 @@ use Rattle.closing.proofs.closing.close_round.Tie as tie
 
 gather-round-requires : tie.Need-gather-round-requires
 gather-round-requires c κs =
-    let held = c .before .before in
+    let held = c .before .before .before in
     let e = held .before .before in
     let r = e .args .r in
     record { standing = good-stands r (good-record r (e .pre .good)) (held .table-of .result) (held .table-of .ensures); enough = e .pre .enough }
@@ -24,7 +24,8 @@ next-round-requires : tie.Need-next-round-requires
 next-round-requires c κs =
     let known = c .before .before in
     let gone = known .before .before in
-    let held = gone .before .before .before in
+    let lent = gone .before .before in
+    let held = lent .before .before in
     let e = held .before .before in
     record { good = e .pre .good; before-last = omega (arith, ap (λ (k : Round). k .0) (c .before .rounds .ensures), c .if1 .taken) }
 
@@ -34,7 +35,8 @@ returns c =
     let more = c .before in
     let known = more .before .before in
     let gone = known .before .before in
-    let held = gone .before .before .before in
+    let lent = gone .before .before in
+    let held = lent .before .before in
     let a = held .before .before .args in
     let o : Board = boardWith a.r (a.cells .now) in
     let e = close-next o (omega (arith, ap (λ (k : Round). k .0) (more .before .rounds .ensures), more .if1 .taken)) in
@@ -48,7 +50,8 @@ returns-2 c =
     let last = made .before .before .before in
     let known = last .before .before in
     let gone = known .before .before in
-    let held = gone .before .before .before in
+    let lent = gone .before .before in
+    let held = lent .before .before in
     let a = held .before .before .args in
     let o : Board = boardWith a.r (a.cells .now) in
     let e = close-last o (omega (arith, ap (λ (k : Round). k .0) (last .before .rounds .ensures), last .if1 .left)) in

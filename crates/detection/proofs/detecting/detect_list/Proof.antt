@@ -16,14 +16,14 @@ use Rattle.detection.proofs.detecting.detect_list.Statement.{statement}
 use Rattle.detection.proofs.detecting.detect_list.Tie as tie
 
 abbrev Inv-loop : tie.InvT-loop
-Inv-loop plan holders board run round nodes list cells₀ start grown₀ i₀ cells grown i =
+Inv-loop plan holders board run round nodes cells₀ start grown₀ i₀ cells grown i =
     let αs = labelsOf plan (round .0 - 1) nodes in
     (i ≤ length nodes)
     × (length cells ≡ length cells₀)
-    × (detectAllG plan board run round (drop i αs) (record { list = grown; cells = cells }) ≡ detectAllG plan board run round αs (record { list = list; cells = cells₀ }))
+    × (detectAllG plan board run round (drop i αs) (record { list = grown; cells = cells }) ≡ detectAllG plan board run round αs (record { list = grown₀; cells = cells₀ }))
 
 abbrev μ-loop : tie.MeasureT-loop
-μ-loop plan holders board run round nodes list cells₀ start grown₀ i₀ cells grown i = length nodes - i
+μ-loop plan holders board run round nodes cells₀ start grown₀ i₀ cells grown i = length nodes - i
 
 loop-holds : tie.Need-loop-holds Inv-loop μ-loop
 loop-holds c = (omega arith, refl, refl)

@@ -11,7 +11,7 @@ use borrow.Author.Needs.{needs}
 use Rattle.sets.specs.Sets.{member, setOf}
 use Rattle.sets.proofs.Tests.{or-left, or-right}
 use Rattle.voting.specs.Tables.{at, dissenting}
-use Rattle.voting.proofs.Collect.{setOf-zero, setOf-more, setOf-skip}
+use Rattle.tree.proofs.Collect.{setOf-zero, setOf-more, setOf-skip}
 use Rattle.explaining.proofs.explained.dissenting_from.Statement.{statement}
 use Rattle.explaining.proofs.explained.dissenting_from.Tie as tie
 

@@ -1,7 +1,7 @@
 -- `print_boards` meets its contract: the lines of the boards below i.
 -- Assumes nothing.
 use Prim.Native.Nat.{_-_, _≤_}
-use mathlib.Core.Path.{_≡_, refl, sym, ap, ap₂, _∙_}
+use mathlib.Core.Path.{_≡_, sym, ap, ap₂, _∙_}
 use mathlib.Core.Logic.{⊎-elim}
 use mathlib.Core.Bool.{true, false}
 use native.Mathlib.Omega.{arith}
@@ -13,7 +13,7 @@ use Rattle.sets.proofs.Tests.{not-t, not-f}
 use Rattle.sheet.specs.Playing.{printBoards}
 use Rattle.printer.specs.Printed.{boardsOf, boardLines, atFront}
 use Rattle.printer.proofs.Stores.{stores-first}
-use Rattle.printer.proofs.BoardLines.{decision-at, list-at, line-healthy, one-more, none-more, lines-none, print-short, many-boards, short-output, all-lines}
+use Rattle.printer.proofs.BoardLines.{record-there, line-healthy, one-more, none-more, lines-none, print-short, many-boards, short-output, all-lines}
 use Rattle.printer.proofs.printing.print_boards.Statement.{statement}
 use Rattle.printer.proofs.printing.print_boards.Tie as tie
 
@@ -73,9 +73,11 @@ loop-again c =
     let a = start .args in
     let l = turn .loop in
     let b = boardsOf a.t2 in
+    let of-records = start .good .1 .0 in
+    let seven : length a.t2 ≡ 7 = of-records .1 .0 .1 in
     ⊎-elim
     (λ w. let f : member l.i (a.head .faulty) ≡ false = sym (at-member .member .ensures) ∙ not-t (at-member .member .result) (w .0 .taken) in
-    let line = line-healthy a.head b l.i _ (decision-at a.t2 l.i _ refl) (list-at a.t2 l.i _ refl) f in
+    let line = line-healthy a.head b l.i _ (record-there a.t2 l.i _ (omega arith)) f in
     let (u, o) = one-more a.head b l.i l.used (a.out .now) l.out _ _ (l .inv .1) (l .inv .2) f line (w .2 .ensures) in
     (omega arith, w .6 ∙ u, w .5 ∙ o))
     (λ w. let f : member l.i (a.head .faulty) ≡ true = sym (at-member .member .ensures) ∙ not-f (at-member .member .result) (w .0 .left) in

@@ -13,18 +13,19 @@ use Rattle.receiving.proofs.receiving.receive.Tie as tie
 take-requires : tie.Need-take-requires
 unfolding verdict
 take-requires c κs =
-    let judged = c .before .before .before in
+    let told = c .before .before in
+    let judged = told .before .before in
     let called = judged .before .before in
     let a = called .before .before .args in
     open-stands (boardWith a.r (a.cells .now))
-    (ap (λ (o : Outcome). o .number) (sym (ap verdict (sym (c .before .enum-told .given .1)) ∙ judged .judge-open .ensures)))
+    (ap (λ (o : Outcome). o .number) (sym (ap verdict (sym (told .enum-told .given .1)) ∙ judged .judge-open .ensures)))
 
 marked-requires : tie.Need-marked-requires
 unfolding verdict
 marked-requires c κs =
     let known = c .before .before in
     let stored = known .before .before in
-    let told = stored .before .before in
+    let told = stored .before .before .before in
     let judged = told .before .before in
     let called = judged .before .before in
     let a = called .before .before .args in
@@ -47,7 +48,7 @@ unfolding verdict
 returns-2 c =
     let known = c .before .before .before in
     let stored = known .before .before in
-    let told = stored .before .before in
+    let told = stored .before .before .before in
     let judged = told .before .before in
     let called = judged .before .before in
     let a = called .before .before .args in
@@ -62,7 +63,7 @@ returns-3 c =
     let new = c .before in
     let known = new .before .before in
     let stored = known .before .before in
-    let told = stored .before .before in
+    let told = stored .before .before .before in
     let judged = told .before .before in
     let called = judged .before .before in
     let a = called .before .before .args in

@@ -10,11 +10,11 @@ use Rattle.rule_c.proofs.rule_c.detect_levels.Statement.{statement}
 use Rattle.rule_c.proofs.rule_c.detect_levels.Tie as tie
 
 abbrev Inv-loop : tie.InvT-loop
-Inv-loop plan holders board run round top list cells grown₀ level₀ grown level =
-    (level < top) × (levelsBy plan board run round cells level grown ≡ levelsBy plan board run round cells (rounds plan .0 - 1) list)
+Inv-loop plan holders board run round top cells grown₀ level₀ grown level =
+    (level < top) × (levelsBy plan board run round cells level grown ≡ levelsBy plan board run round cells (rounds plan .0 - 1) grown₀)
 
 abbrev μ-loop : tie.MeasureT-loop
-μ-loop plan holders board run round top list cells grown₀ level₀ grown level = level
+μ-loop plan holders board run round top cells grown₀ level₀ grown level = level
 
 sub-level : tie.Need-sub-level Inv-loop μ-loop
 sub-level c = let s = c .before .before in omega (arith, s .pre .convertible .some-round, s .pre .top-is)

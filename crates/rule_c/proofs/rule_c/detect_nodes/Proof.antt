@@ -15,11 +15,11 @@ use Rattle.rule_c.proofs.rule_c.detect_nodes.Statement.{statement}
 use Rattle.rule_c.proofs.rule_c.detect_nodes.Tie as tie
 
 abbrev Inv-loop : tie.InvT-loop
-Inv-loop plan holders board run round level nodes list cells start width grown₀ i₀ grown i =
-    detectBy plan run round cells (drop i (inner plan board level)) grown ≡ detectBy plan run round cells (inner plan board level) list
+Inv-loop plan holders board run round level nodes cells start width grown₀ i₀ grown i =
+    detectBy plan run round cells (drop i (inner plan board level)) grown ≡ detectBy plan run round cells (inner plan board level) grown₀
 
 abbrev μ-loop : tie.MeasureT-loop
-μ-loop plan holders board run round level nodes list cells start width grown₀ i₀ grown i = length nodes - i
+μ-loop plan holders board run round level nodes cells start width grown₀ i₀ grown i = length nodes - i
 
 add-level-start : tie.Need-add-level-start Inv-loop μ-loop
 add-level-start c = let s = c .before .before .before in level-fits (s .pre .convertible) (s .pre .listed)
@@ -98,7 +98,7 @@ detect-nodes-spec =
     add-from
     passes-at-requires
     (λ c κs. search needs)
-    (λ c. search needs)
+    (λ c κs. search needs)
     (λ c. omega arith)
     (λ c. omega arith)
     loop-again

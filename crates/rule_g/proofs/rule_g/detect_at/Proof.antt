@@ -40,15 +40,6 @@ silence-requires c κs =
       enough = e .pre .visit .enough;
     }
 
-join-requires : tie.Need-join-requires
-join-requires c κs =
-    let at-silence = c .before .before .before in
-    let found = at-silence .before .before in
-    let at-passes-arg = found .before .before .before in
-    let at-shared-slice-known = at-passes-arg .before .before .before in
-    let e = at-shared-slice-known .before in
-    omega (arith, found .last-of .ensures, end-below (e .pre .visit), e .pre .standing .most-boards)
-
 returns-2 : tie.Need-returns-2
 returns-2 c =
     let listed = c .before .before .before in
@@ -65,7 +56,7 @@ returns-2 c =
     let below : last α < a.plan .n = omega (arith, v .is-node .end, end-below v) in
     let joined = detect-joined a.plan a.board a.run a.round α now (sym (at-passes .passes .ensures) ∙ found .before .if1 .left) in
     ap₂ (λ d cells. record { list = d; cells = cells })
-    (c .join .ensures ∙ ap₂ (λ q level. join q a.run a.round Rule.G level a.list) end (sym (label-level v)))
+    (c .join .ensures ∙ ap₂ (λ q level. join q a.run a.round (Rule.G level) a.list) end (sym (label-level v)))
     (listed .before .silence .ensures
     ∙ ap (λ q. fill a.plan q (sent a.plan q a.board a.round) [] (a.cells .now)) end
     ∙ sym (mask-sent (e .pre .standing) (e .pre .later) (last α) α (a.cells .now) below (label-level v)))
@@ -82,6 +73,6 @@ detect-at-spec =
     (λ c κs. search needs)
     silence-requires
     (λ c. search needs)
-    join-requires
+    (λ c κs. search needs)
     (λ c. search needs)
     returns-2)

@@ -6,6 +6,7 @@ use mathlib.Core.Bool.{true, false, _||_}
 use borrow.Author.Needs.{needs}
 use Rattle.sets.specs.Sets.{member}
 use Rattle.tree.specs.Labels.{last}
+use Rattle.protocol.specs.Listing.{asSet}
 use Rattle.protocol.specs.Detection.{explained, byCell, passes}
 use Rattle.voting.specs.Worth.{childTable}
 use Rattle.voting.specs.Tables.{explainedBy}
@@ -24,7 +25,7 @@ returns c =
     let a = e .args in
     let α = nodeAt a.plan a.level a.node in
     let end : c .before .before .last-of .result ≡ last α = c .before .before .last-of .ensures ∙ e .pre .is-node .end in
-    let on : member (last α) a.list ≡ true = ap₂ member (sym end) (sym (list .ensures)) ∙ sym (c .before .member .ensures) ∙ c .if1 .taken in
+    let on : member (last α) (asSet a.list) ≡ true = ap₂ member (sym end) (sym (list .ensures)) ∙ sym (c .before .member .ensures) ∙ c .if1 .taken in
     sym (ap (λ b. b || explained a.plan α (byCell a.plan (a.cells .now) α) a.list) on)
 
 first-child-requires : tie.Need-first-child-requires
@@ -54,10 +55,10 @@ returns-2 c =
     let a = e .args in
     let α = nodeAt a.plan a.level a.node in
     let end : asked .before .before .last-of .result ≡ last α = asked .before .before .last-of .ensures ∙ e .pre .is-node .end in
-    let out : member (last α) a.list ≡ false = ap₂ member (sym end) (sym (list .ensures)) ∙ sym (asked .before .member .ensures) ∙ asked .if1 .left in
+    let out : member (last α) (asSet a.list) ≡ false = ap₂ member (sym end) (sym (list .ensures)) ∙ sym (asked .before .member .ensures) ∙ asked .if1 .left in
     c .explained-by .ensures
     ∙ ap (explainedBy a.plan (at-boards-of .boards-of .result) (c .before .child-values .result)) (list .ensures)
-    ∙ ap₂ (λ s t. explainedBy a.plan s t a.list) (at-boards-of .boards-of .ensures)
+    ∙ ap₂ (λ s t. explainedBy a.plan s t (asSet a.list)) (at-boards-of .boards-of .ensures)
     (c .before .child-values .ensures
     ∙ ap₂ (λ s k. childTable (kid a.plan s k (a.cells .now)) s (a.plan .n)) (at-boards-of .boards-of .ensures) (c .before .before .first-child .ensures))
     ∙ explained-kids (e .pre) a.list

@@ -11,7 +11,7 @@ use borrow.Author.Needs.{needs}
 use Rattle.sets.specs.Sets.{member, setOf}
 use Rattle.sets.proofs.Tests.{not-t, not-f}
 use Rattle.voting.specs.Tables.{at, agreeing}
-use Rattle.voting.proofs.Collect.{setOf-zero, setOf-more, setOf-skip}
+use Rattle.tree.proofs.Collect.{setOf-zero, setOf-more, setOf-skip}
 use Rattle.voting.proofs.voting.agreeing_on.Statement.{statement}
 use Rattle.voting.proofs.voting.agreeing_on.Tie as tie
 

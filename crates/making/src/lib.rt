@@ -1,0 +1,2 @@
+// Making the calls of a script.
+pub mod making;

@@ -1,0 +1,2 @@
+// What the calls answer, as numbers.
+pub mod said;

@@ -1,0 +1,2 @@
+// Reading a script of calls, step by step.
+pub mod steps;

@@ -1,0 +1,1 @@
+// Request d: an entry is written once. Definitions and proofs only.
