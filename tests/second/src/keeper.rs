@@ -1,13 +1,14 @@
 //! One board that keeps cells: storing, rule G, conversion and rule C.
 
+use crate::entry::{Entry, List, Rule};
 use crate::mistake::Mistake;
-use crate::plan::{child, has, set_of, Label, Set, Tree};
+use crate::plan::{child, has, set_of, Label, Plan, Set, Tree};
 use std::collections::{BTreeMap, HashMap};
 
 #[derive(Clone)]
 pub struct Keeper {
     pub board: u8,
-    pub list: Set,
+    pub list: List,
     pub cells: HashMap<Label, u8>,
     /// What the nodes resolved to when the last run ended.
     pub resolved: Resolved,
@@ -20,7 +21,7 @@ impl Keeper {
     pub fn new(board: u8, mistake: Option<Mistake>) -> Keeper {
         Keeper {
             board,
-            list: 0,
+            list: List::default(),
             cells: HashMap::new(),
             resolved: HashMap::new(),
             mistake,
@@ -55,7 +56,7 @@ impl Keeper {
     /// Stores one sender's frame, or its absence.
     pub fn store(&mut self, tree: &Tree, round: usize, sender: u8, frame: Option<&[u8]>) {
         let nodes = tree.reported(round, sender);
-        let listed = has(self.list, sender) && !self.makes(Mistake::ListedFrameKept);
+        let listed = self.list.has(sender) && !self.makes(Mistake::ListedFrameKept);
         let values = match frame {
             _ if listed => self.no_values(tree, nodes.len(), Mistake::ListedIsZero),
             Some(frame) => self.accepted(tree, frame, nodes.len()),
@@ -106,23 +107,23 @@ impl Keeper {
         }
     }
 
-    /// Closes a round after all frames were stored.
-    pub fn close(&mut self, tree: &Tree, round: usize) {
+    /// Closes a round of a run after all frames were stored.
+    pub fn close(&mut self, tree: &Tree, run: usize, round: usize) {
         let skipped = round == tree.plan.rounds() && self.makes(Mistake::NoGInLastRound);
         if round > 1 {
             self.copy_own(tree, round);
         }
         if round > 1 && !skipped {
-            self.rule_g(tree, round);
+            self.rule_g(tree, run, round);
         }
     }
 
-    fn rule_g(&mut self, tree: &Tree, round: usize) {
+    fn rule_g(&mut self, tree: &Tree, run: usize, round: usize) {
         let mut nodes: Vec<&Label> = tree.internal_of(round - 1).collect();
         if self.makes(Mistake::GReversed) {
             nodes.reverse();
         }
-        let before = self.list;
+        let before = self.list.set();
         let mut looked_at: Set = 0;
         for label in nodes {
             let last = *label.last().unwrap();
@@ -130,11 +131,39 @@ impl Keeper {
             looked_at |= set_of([last]);
             let list = self.list_for(Mistake::GWithoutList, before);
             let values = self.child_cells(tree, label);
-            if !has(self.list, last) && !skipped && !explained(tree, &values, list) {
-                self.list |= set_of([last]);
-                self.mask(tree, round, last);
+            if self.looks_at(last) && !skipped && !explained(tree, &values, list) {
+                let listed = self.list.has(last);
+                let entry = self.entry(&tree.plan, run, round, Rule::G(label.len() as u8));
+                self.list.put(last, entry);
+                if !listed {
+                    self.mask(tree, round, last);
+                }
             }
         }
+    }
+
+    /// Whether a rule looks at the nodes of a board: not if it is listed.
+    fn looks_at(&self, board: u8) -> bool {
+        !self.list.has(board) || self.makes(Mistake::EntryOverwritten)
+    }
+
+    /// The entry that a rule writes when it lists a board.
+    fn entry(&self, plan: &Plan, run: usize, round: usize, rule: Rule) -> Entry {
+        let last = round == plan.rounds();
+        let (run, round) = match self.mistake {
+            Some(Mistake::EntryOfNextRound) if last => (run + 1, 2),
+            Some(Mistake::EntryOfNextRound) => (run, round + 1),
+            Some(Mistake::EntryInRun1) => (1, round),
+            _ => (run, round),
+        };
+        let rule = match (self.mistake, rule) {
+            (Some(Mistake::GLevelOfRound), Rule::G(level)) => Rule::G(level + 1),
+            (Some(Mistake::CLevelOfLeaves), Rule::C(_)) => Rule::C(plan.rounds() as u8 - 1),
+            (Some(Mistake::CAsG), Rule::C(level)) => Rule::G(level),
+            _ => rule,
+        };
+        let (run, round) = (run as u8, round as u8);
+        Entry { run, round, rule }
     }
 
     /// The list that a rule joins to the children that differ.
@@ -144,7 +173,7 @@ impl Keeper {
         } else if self.makes(Mistake::ListFrozen) {
             before
         } else {
-            self.list
+            self.list.set()
         }
     }
 
@@ -170,7 +199,7 @@ impl Keeper {
         let forgets = self.makes(Mistake::LastRunWithoutC)
             || self.makes(Mistake::CutLastRunWithoutC) && tree.plan.cut();
         if run < tree.plan.runs() || !forgets {
-            self.rule_c(tree, &resolved);
+            self.rule_c(tree, run, &resolved);
         }
         let root = vec![tree.plan.dealer];
         let unresolved = self.as_value(tree, None, Mistake::RootIsZero);
@@ -178,7 +207,7 @@ impl Keeper {
         self.cells = HashMap::from([(root, value)]);
         self.resolved = resolved;
         if self.makes(Mistake::ListCleared) && run < tree.plan.runs() {
-            self.list = 0;
+            self.list = List::default();
         }
     }
 
@@ -215,12 +244,12 @@ impl Keeper {
         first.filter(|_| unique).or(none)
     }
 
-    fn rule_c(&mut self, tree: &Tree, resolved: &Resolved) {
+    fn rule_c(&mut self, tree: &Tree, run: usize, resolved: &Resolved) {
         let mut levels: Vec<usize> = (1..tree.plan.rounds()).rev().collect();
         if self.makes(Mistake::CUpwards) {
             levels.reverse();
         }
-        let before = self.list;
+        let before = self.list.set();
         for level in levels {
             let mut nodes: Vec<&Label> = tree.internal_of(level).collect();
             if self.makes(Mistake::CReversed) {
@@ -230,8 +259,10 @@ impl Keeper {
                 let last = *label.last().unwrap();
                 let list = self.list_for(Mistake::CWithoutList, before);
                 let values = child_values(tree, label, resolved);
-                if !has(self.list, last) && !explained(tree, &values, list) {
-                    self.list |= set_of([last]);
+                if self.looks_at(last) && !explained(tree, &values, list) {
+                    let rule = Rule::C(level as u8);
+                    let entry = self.entry(&tree.plan, run, tree.plan.rounds(), rule);
+                    self.list.put(last, entry);
                 }
             }
         }

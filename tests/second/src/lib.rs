@@ -1,15 +1,22 @@
 //! A second implementation of the bench, written from the paper by labels and maps.
 //! It is slow and plain on purpose. Sets of boards are bytes, everything else is looked up.
 
+pub mod board;
 pub mod chain;
 pub mod corpus;
+pub mod damage;
+pub mod entry;
 pub mod keeper;
 pub mod line;
 pub mod make;
+pub mod met;
 pub mod mistake;
 pub mod places;
 pub mod plan;
 pub mod prng;
+pub mod record;
+pub mod script;
+pub mod scripts;
 pub mod search;
 pub mod session;
 pub mod sheet;

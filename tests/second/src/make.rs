@@ -50,7 +50,7 @@ pub fn lied_to(plan: Plan, faulty: Set, rng: &mut Prng) -> Sheet {
 // Plans
 
 /// An accepted plan.
-fn plan(rng: &mut Prng) -> Plan {
+pub fn plan(rng: &mut Prng) -> Plan {
     let n = rng.pick(&[
         1, 2, 3, 3, 4, 4, 4, 5, 5, 5, 5, 6, 6, 6, 6, 6, 6, 7, 7, 7, 7,
     ]);
@@ -328,7 +328,7 @@ fn hurt_head(head: &mut Vec<u8>, plan: &Plan, rng: &mut Prng) {
 }
 
 /// Depths that meet number 8.
-const BAD_DEPTHS: [u8; 8] = [1, 2, 3, 8, 9, 128, 132, 255];
+pub const BAD_DEPTHS: [u8; 8] = [1, 2, 3, 8, 9, 128, 132, 255];
 
 /// Gives a head a default that is not below its span.
 fn raise_default(head: &mut [u8], rng: &mut Prng) {

@@ -102,10 +102,32 @@ pub enum Mistake {
     PlaceOfFirstBoard,
     /// A healthy dealer's line has the place of F.
     DealerPlace,
+    /// A rule that would list a board again writes its entry anew.
+    EntryOverwritten,
+    /// An entry has the run and the round that come next.
+    EntryOfNextRound,
+    /// An entry has run 1.
+    EntryInRun1,
+    /// An entry by rule G has the round for its level.
+    GLevelOfRound,
+    /// An entry by rule C has the level above the leaves.
+    CLevelOfLeaves,
+    /// An entry by rule C names rule G.
+    CAsG,
+    /// Number 12 does not judge the level of an entry.
+    EntryLevelUnjudged,
+    /// Number 12 takes a level of R.
+    EntryLevelOfR,
+    /// Number 12 does not judge run and round of an entry.
+    EntryRoundUnjudged,
+    /// Number 12 judges run and round of an entry each by itself.
+    EntryRoundAlone,
+    /// Number 12 does not ask whether board n or above has an entry.
+    EntryBoardUnjudged,
 }
 
 impl Mistake {
-    pub const ALL: [Mistake; 50] = [
+    pub const ALL: [Mistake; 61] = [
         Mistake::CachedValue,
         Mistake::CachedVerdict,
         Mistake::GWithoutList,
@@ -156,12 +178,25 @@ impl Mistake {
         Mistake::PlaceOfFaulty,
         Mistake::PlaceOfFirstBoard,
         Mistake::DealerPlace,
+        Mistake::EntryOverwritten,
+        Mistake::EntryOfNextRound,
+        Mistake::EntryInRun1,
+        Mistake::GLevelOfRound,
+        Mistake::CLevelOfLeaves,
+        Mistake::CAsG,
+        Mistake::EntryLevelUnjudged,
+        Mistake::EntryLevelOfR,
+        Mistake::EntryRoundUnjudged,
+        Mistake::EntryRoundAlone,
+        Mistake::EntryBoardUnjudged,
     ];
 
-    /// Mistakes that no sheet can show: with `RawStored` cells differ, what is printed does not; `CellIsZero` is about
-    /// cells of m or more, which no sheet leads to.
+    /// Mistakes that no sheet can show, and that calls tell: with `RawStored` cells differ, what is printed does not;
+    /// `CellIsZero` is about cells of m or more, which no sheet leads to; entries are not printed, and no sheet leads to
+    /// number 12.
     pub fn hidden(self) -> bool {
         matches!(self, Mistake::RawStored | Mistake::CellIsZero)
+            || self >= Mistake::EntryOverwritten
     }
 
     /// The mistakes that a sheet tells from the right engine, accepted or refused.

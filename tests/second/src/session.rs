@@ -14,6 +14,9 @@ pub trait Adversary {
     /// The frame for a slot; `nodes` are the labels it reports, in order.
     fn frame(&mut self, slot: Slot, nodes: &[Label], keepers: &Keepers) -> Option<Vec<u8>>;
 
+    /// Called for each frame that a keeper stores, or for its absence.
+    fn stored(&mut self, _slot: Slot, _frame: Option<&[u8]>) {}
+
     /// Called when all keepers have converted; false ends the session early.
     fn converted(&mut self, _tree: &Tree, _keepers: &Keepers) -> bool {
         true
@@ -109,14 +112,14 @@ pub fn play(
                 .map(|k| k.cells[&vec![plan.dealer]])
                 .collect(),
         );
-        lists.push(keepers.values().map(|k| k.list).collect());
+        lists.push(keepers.values().map(|k| k.list.set()).collect());
         if !adversary.converted(&tree, &keepers) {
             break;
         }
     }
     let line = |board: &u8| {
         let (decision, list) = match keepers.get(board) {
-            Some(k) => (k.value(&tree, &[plan.dealer]), k.list),
+            Some(k) => (k.value(&tree, &[plan.dealer]), k.list.set()),
             None => (value, 0),
         };
         let explained = explained(*board, list, faulty, &keepers, mistake);
@@ -148,7 +151,9 @@ fn explained(
     match mistake {
         Some(Mistake::DealerPlace) if !keepers.contains_key(&board) => faulty,
         Some(Mistake::PlaceOfFaulty) if list != 0 => faulty,
-        Some(Mistake::PlaceOfFirstBoard) if list != 0 => keepers.values().next().unwrap().list,
+        Some(Mistake::PlaceOfFirstBoard) if list != 0 => {
+            keepers.values().next().unwrap().list.set()
+        }
         _ => list,
     }
 }
@@ -163,7 +168,7 @@ fn exchange(
     keepers: &mut Keepers,
     adversary: &mut dyn Adversary,
 ) -> BTreeSet<u8> {
-    let mut frames: Vec<(u8, u8, Option<Vec<u8>>)> = vec![];
+    let mut frames: Vec<(Slot, Option<Vec<u8>>)> = vec![];
     let mut told = BTreeSet::new();
     for sender in 0..tree.plan.n {
         let nodes = tree.reported(round, sender);
@@ -184,16 +189,17 @@ fn exchange(
             } else {
                 Some(keepers[&sender].frame(tree, round))
             };
-            frames.push((sender, receiver, frame));
+            frames.push((slot, frame));
         }
     }
-    for (sender, receiver, frame) in frames {
-        let keeper = keepers.get_mut(&receiver).unwrap();
-        keeper.store(tree, round, sender, frame.as_deref());
-        if has(faulty, sender) {
+    for (slot, frame) in frames {
+        let keeper = keepers.get_mut(&slot.receiver).unwrap();
+        keeper.store(tree, round, slot.sender, frame.as_deref());
+        adversary.stored(slot, frame.as_deref());
+        if has(faulty, slot.sender) {
             told.extend(frame.into_iter().flatten());
         }
     }
-    keepers.values_mut().for_each(|k| k.close(tree, round));
+    keepers.values_mut().for_each(|k| k.close(tree, run, round));
     told
 }

@@ -129,8 +129,9 @@ fn made_sheets_agree_and_list_only_faulty_boards() {
             held_first(&outcome, line, seed);
         }
         detected_while_unequal(&outcome, seed);
-        let hidden = Mistake::ALL.into_iter().filter(|m| m.hidden());
-        hidden.for_each(|m| assert_eq!(bench_with(&text, m), print(&play(&text, None))));
+        let hidden: Vec<Mistake> = Mistake::ALL.into_iter().filter(|m| m.hidden()).collect();
+        let some = hidden.iter().skip(seed as usize % 4).step_by(4);
+        some.for_each(|m| assert_eq!(bench_with(&text, *m), print(&play(&text, None))));
     }
 }
 

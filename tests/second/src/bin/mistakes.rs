@@ -34,7 +34,7 @@ fn main() {
         };
         let sheets = match (names.is_empty(), mistake.hidden()) {
             (false, false) => names.join(" "),
-            (true, true) => "none can: it changes nothing that is printed".into(),
+            (true, true) => "none can: it changes nothing that is printed, calls tell it".into(),
             (true, false) => "NONE".into(),
             (false, true) => format!("NOT HIDDEN: {}", names.join(" ")),
         };
