@@ -19,13 +19,13 @@ use Rattle.tree.specs.Places.{rank, place, cellCount, childIndex, startWithin}
 use Rattle.tree.proofs.Entries.{getD-mem}
 use Rattle.tree.proofs.NodePlaces.{at-lt}
 use Rattle.tree.proofs.Ranks.{rank-lt, rank-get}
+use Rattle.tree.proofs.Sizes.{size-most}
 use Rattle.protocol.specs.Nodes.{inner, carried, sent}
 use Rattle.protocol.proofs.Nodes.{filter-inv, inner-inv, node-label, internal-tol}
 use Rattle.protocol.proofs.Few.{carried-few}
 use Rattle.internal.specs.Numbers.{code}
 use Rattle.walk.specs.Listing.{Walkable, Lists}
 use Rattle.internal.proofs.Codes.{Coded, label-coded}
-use Rattle.walk.proofs.Carried.{size-most}
 use Rattle.frames.proofs.Places.{at-sum, child-sum, child-lt}
 use Rattle.frames.specs.Nodes.{Standing, nodeAt, IsNode, labelsOf, Nodes, Without}
 
@@ -99,7 +99,7 @@ module _ {p : Plan} {level : ℕ} {nodes : List ℕ} (ns : Nodes p level nodes) 
   node = getD nodes i 0
 
   pub node-most : node / 1024 ≤ 720
-  node-most = omega (arith, ns .are i h .inside, size-most (p .n) level (ns .some-board) (ns .most-boards))
+  node-most = omega (arith, ns .are i h .inside, size-most (p .n) level (ns .most-boards))
 
   pub own-cell : (start m : ℕ) → start ≡ startWithin (p .n) level → cellCount (p .n) ≤ m
       → (start + node / 1024 ≡ place (p .n) (nodeAt p level node)) × (start + node / 1024 < m)

@@ -2,44 +2,44 @@
 ghost use mathlib.Core.Path.{_≡_};
 ghost use Rattle.tree.specs.Places.{sizeWithin, startWithin, countWithin};
 
-// Row n - 1: the sizes of levels 0 to 7 with n boards.
-const SIZES: [[usize; 8]; 7] = [
-    [0, 1, 0, 0, 0, 0, 0, 0],
-    [0, 1, 1, 0, 0, 0, 0, 0],
-    [0, 1, 2, 2, 0, 0, 0, 0],
-    [0, 1, 3, 6, 6, 0, 0, 0],
-    [0, 1, 4, 12, 24, 24, 0, 0],
-    [0, 1, 5, 20, 60, 120, 120, 0],
-    [0, 1, 6, 30, 120, 360, 720, 720],
-];
-
-// The places of level k with n boards; 0 unless n is 1 to 7.
+// The places of level k with n boards, (n - 1)(n - 2)…(n - k + 1); 0 unless n is 1 to 7 and k is 1 to n.
 pub fn level_size(n: u8, k: u8) -> usize
     ensures { λ r. ⌜ r ≡ sizeWithin n k ⌝ }
 {
-    if n == 0 {
-        return 0;
-    }
     if 7 < n {
         return 0;
     }
-    if 7 < k {
+    if n < k {
         return 0;
     }
-    let row = (n - 1) as usize;
-    let level = k as usize;
-    SIZES[row][level]
+    if k == 0 {
+        return 0;
+    }
+    let mut size: usize = 1;
+    let mut level: u8 = 1;
+    while level < k {
+        size *= (n - level) as usize;
+        level += 1;
+    }
+    size
 }
 
-// The places of the levels before level k; 0 unless n is 1 to 7.
+// The places of the levels before level k; 0 unless n is 1 to 7. Counted from the last of them up: a node, with all that
+// is below it, has one place and n - level times those of a child.
 pub fn level_start(n: u8, k: u8) -> usize
     ensures { λ r. ⌜ r ≡ startWithin n k ⌝ }
 {
+    if 7 < n {
+        return 0;
+    }
+    let mut level = k;
+    if n < level {
+        level = n + 1;
+    }
     let mut start: usize = 0;
-    let mut i: u8 = 0;
-    while i < k {
-        start += level_size(n, i);
-        i += 1;
+    while 1 < level {
+        level -= 1;
+        start = 1 + start * (n - level) as usize;
     }
     start
 }

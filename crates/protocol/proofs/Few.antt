@@ -6,7 +6,7 @@ use mathlib.Core.Logic.{_≢_, ⊎-elim}
 use mathlib.Core.Bool.{Bool, true, false, not, _&&_, cond}
 use mathlib.Core.List.{List, [], _∷_, _++_, List·Memᴰ, List·Memᴰ·head, List·Memᴰ·tail, List·Memᴰ·cases-cons, List·Memᴰ·not-nil}
 use native.Mathlib.Omega.{arith}
-use native.Mathlib.Nat.{mul-le-mul-right, mul-zero}
+use native.Mathlib.Nat.{mul-le-mul-right}
 use lib.Dec.{eqb, leb}
 use lib.ListN.{length, take, length-append, length-map}
 use lib.Seq.{take-all, length-take-le}
@@ -24,10 +24,9 @@ use Rattle.plan.specs.Calls.{judged}
 use Rattle.refusals.proofs.Outcomes.{taken-first}
 use Rattle.tree.specs.Labels.{Label, occurs, childrenFrom, children, childrenOf, labels}
 use Rattle.tree.specs.Places.{levelSize, ordinal}
-use Rattle.tree.proofs.Below.{all, all-at}
 use Rattle.tree.proofs.Entries.{getD-mem}
 use Rattle.tree.proofs.Children.{child-get, ordinal-size}
-use Rattle.tree.proofs.Sizes.{size-suc}
+use Rattle.tree.proofs.Sizes.{size-suc, size-bound}
 use Rattle.tree.proofs.Ranks.{label-width}
 use Rattle.protocol.specs.Limits.{frameMost, frameRoom}
 use Rattle.protocol.specs.declared.records.Record.{Record}
@@ -132,17 +131,8 @@ module _ (p : Plan) (q i : ℕ) (ld : p .dealer < p .n) (lq : q < p .n) where
 
 -- These are at most 120 where n is at most 7.
 size-few : (m k : ℕ) → m ≤ 6 → levelSize m k ≤ frameMost
-size-few m k l =
-    cases (leb k 7)
-    (λ e. let f : ℕ → ℕ → Bool = λ a b. leb (levelSize a b) frameMost in
-    let low : k ≤ 7 = leb-true k 7 e in
-    leb-true (levelSize m k) frameMost (all-at (f m) 8 (all-at (λ a. all (f a) 8) 7 (unfold levelSize in refl) m (omega arith)) k (omega arith)))
-    (λ e. let high : 7 < k = leb-false k 7 e in
-    let deep : k ≡ suc (suc (k - 2)) = omega arith in
-    let none : m - suc (k - 2) ≡ 0 = omega arith in
-    let gone : levelSize m k ≡ 0 =
-    ap (levelSize m) deep ∙ size-suc m (k - 2) ∙ ap (λ x. levelSize m (suc (k - 2)) * x) none ∙ mul-zero (levelSize m (suc (k - 2))) in
-    omega arith)
+unfolding levelSize
+size-few = size-bound 6 frameMost (omega arith) refl
 
 -- A level has at most 120 internal nodes without q.
 pub carried-few : (p : Plan) (q i k : ℕ) → p .dealer < p .n → p .n ≤ 7 → q < p .n → length (carried p q i k) ≤ frameMost

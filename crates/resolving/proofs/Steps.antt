@@ -29,12 +29,11 @@ use Rattle.tree.proofs.Descent.{insert-byte, root-at, root-byte}
 use Rattle.tree.proofs.Labels.{label-length, label-below}
 use Rattle.tree.proofs.Masks.{mask-member, mask-lt}
 use Rattle.tree.proofs.NodePlaces.{at-mem, at-level, at-place, at-lt, child-absent, child-inside, child-label}
-use Rattle.tree.proofs.Sizes.{start-suc, cells-most}
+use Rattle.tree.proofs.Sizes.{start-suc, size-most, cells-most}
 use Rattle.tree.proofs.Within.{size-within, start-within, start-next, start-most}
 use Rattle.protocol.specs.Nodes.{read, internal}
 use Rattle.protocol.specs.Detection.{resolve}
 use Rattle.internal.specs.Tests.{isInternal}
-use Rattle.walk.proofs.Carried.{size-most}
 use Rattle.internal.proofs.InternalNodes.{internal-is}
 use Rattle.voting.specs.Worth.{worth, childTable}
 use Rattle.protocol.proofs.Judgement.{plan-default}
@@ -138,7 +137,7 @@ module _ {p : Plan} {holders : List ℕ} {i : ℕ} {before : List ℕ} (k : Conv
 
   first-small : index * (p .n - level) ≤ 5040
   first-small =
-      let x : index ≤ 720 = omega (arith, st .inside, size-most (p .n) level (k .some-board) (k .most-boards)) in
+      let x : index ≤ 720 = omega (arith, st .inside, size-most (p .n) level (k .most-boards)) in
       let y : p .n - level ≤ 7 = omega (arith, k .most-boards) in
       omega (arith, mul-le-mul x y)
 

@@ -27,6 +27,7 @@ use Rattle.tree.proofs.Masks.{mask-member}
 use Rattle.tree.proofs.NodePlaces.{child-mem}
 use Rattle.tree.proofs.Places.{place-lt}
 use Rattle.tree.proofs.Ranks.{rank-lt}
+use Rattle.tree.proofs.Sizes.{size-most}
 use Rattle.tree.proofs.Within.{start-within, start-most}
 use Rattle.protocol.specs.Nodes.{inner}
 use Rattle.protocol.specs.declared.records.Rule.the-variants as Rule
@@ -38,7 +39,7 @@ use Rattle.voting.specs.Tables.{explainedBy}
 use Rattle.voting.proofs.Table.{table-same}
 use Rattle.walk.specs.Listing.{Walkable, Lists}
 use Rattle.internal.specs.Numbers.{code}
-use Rattle.walk.proofs.Carried.{inner-coded, inner-few, size-most}
+use Rattle.walk.proofs.Carried.{inner-coded, inner-few}
 use Rattle.internal.proofs.Codes.{Coded}
 use Rattle.walk.proofs.Reading.{lists-length}
 use Rattle.resolving.specs.Contracts.{Convertible}
@@ -86,7 +87,7 @@ module _ {p : Plan} {holders : List ℕ} {i : ℕ} {cells : List ℕ} (k : Conve
     index-small : (ix : ℕ) → ix ≡ getD nodes j 0 / 1024 → ix * (p .n - level) ≤ 5040
     index-small ix f =
         let a : ix ≤ 720 =
-        omega (arith, visited .index, rank-lt (p .n) (p .dealer) level α (k .dealer-below) mem, size-most (p .n) level (k .some-board) (k .most-boards)) in
+        omega (arith, visited .index, rank-lt (p .n) (p .dealer) level α (k .dealer-below) mem, size-most (p .n) level (k .most-boards)) in
         let b : p .n - level ≤ 7 = omega (arith, k .most-boards) in
         omega (arith, mul-le-mul a b)
 

@@ -7,7 +7,7 @@ use mathlib.Core.Bool.{Bool, true, false, not, _&&_, _||_, cond}
 use mathlib.Core.List.{List, [], _∷_}
 use mathlib.Core.Option.{Option, some, none}
 use native.Mathlib.Omega.{arith}
-use native.Mathlib.Nat.{mul-le-mul-right}
+use native.Mathlib.Nat.{mul-le-mul, mul-le-mul-right}
 use lib.Dec.{eqb, leb, ltb}
 use lib.ListN.{length, drop, replicate, length-drop}
 use lib.Seq.{take-append-seam, length-take-le}
@@ -22,8 +22,8 @@ use Rattle.settings.specs.Planning.{planning}
 use Rattle.plan.specs.Calls.{planOn, judged, settingsOf}
 use Rattle.refusals.proofs.Outcomes.{passed, both-taken}
 use Rattle.plan.proofs.Accepted.{accepted, planned-taken, planned-judged}
-use Rattle.tree.specs.Places.{levelSize, levelStart, cellCount}
-use Rattle.tree.proofs.Below.{most}
+use Rattle.tree.specs.Places.{cellCount}
+use Rattle.tree.proofs.Sizes.{cells-most}
 use Rattle.protocol.specs.Limits.{cellsNeeded}
 use Rattle.sheet.specs.declared.head.Head.{Head}
 use Rattle.sheet.specs.Sheet.{Line, lineBytes, setsPlace, headLength, headBoards, headCount, headSets, headSettings, headFaulty, headWord, headOf, judgeHead, Frame, frameLine, goodFrame, Reading, wrongAt, refusedReading, addFrame, readFrames, readHead, readLines, lines, reading}
@@ -171,8 +171,7 @@ few-boards h g = accepted (h .plan .n) (h .plan .count) (listed (h .plan)) (sett
 
 -- The cells of all boards.
 pub parts-most : (n : ℕ) → n ≤ 7 → n * cellCount n ≤ cellsNeeded
-unfolding cellCount levelStart levelSize
-parts-most n l = most (λ k. k * cellCount k) cellsNeeded 8 refl n (omega arith)
+parts-most n l = mul-le-mul l (cells-most n l)
 
 pub part-length : (n i : ℕ) (cells : List ℕ) → n ≤ 7 → i < n → cellsNeeded ≤ length cells → length (part n i cells) ≡ cellCount n
 unfolding part

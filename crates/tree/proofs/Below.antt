@@ -4,10 +4,8 @@ use Prim.Native.Nat.{ℕ, zero, suc, _≤_, _<_}
 use mathlib.Core.Path.{_≡_, sym, subst}
 use mathlib.Core.Logic.{_≢_}
 use mathlib.Core.Bool.{Bool, true, _&&_}
-use mathlib.Core.List.{List, []}
 use native.Mathlib.Omega.{arith}
 use lib.Dec.{eqb, leb}
-use lib.ListN.{getD}
 use borrow.Author.Tests.{eqb-true, eqb-false, leb-true}
 use Rattle.sets.proofs.Tests.{cases, and-l, and-r}
 
@@ -27,11 +25,3 @@ all-at f (suc k) h i l =
 -- A function is at most b below a bound.
 pub most : (f : ℕ → ℕ) (b m : ℕ) → all (λ i. leb (f i) b) m ≡ true → (i : ℕ) → i < m → f i ≤ b
 most f b m t i l = leb-true (f i) b (all-at (λ i. leb (f i) b) m t i l)
-
--- A table of rows has what a function of row and column has, below two bounds.
-pub table : (rows : List (List ℕ)) (g : ℕ → ℕ → ℕ) (m k : ℕ) → all (λ i. all (λ j. eqb (getD (getD rows i []) j 0) (g i j)) k) m ≡ true
-    → (i j : ℕ) → i < m → j < k → getD (getD rows i []) j 0 ≡ g i j
-table rows g m k t i j li lj =
-    eqb-true (getD (getD rows i []) j 0) (g i j)
-    (all-at (λ j. eqb (getD (getD rows i []) j 0) (g i j)) k
-    (all-at (λ i. all (λ j. eqb (getD (getD rows i []) j 0) (g i j)) k) m t i li) j lj)

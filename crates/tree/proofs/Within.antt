@@ -1,15 +1,16 @@
 -- Sizes and starts of levels with their limits: 0 unless n is 1 to 7.
 -- Assumes nothing.
 use Prim.Native.Nat.{ℕ, _+_, _≤_, _<_}
-use mathlib.Core.Path.{_≡_, _∙_, ap}
+use mathlib.Core.Path.{_≡_, sym, _∙_, ap}
+use mathlib.Core.Logic.{_≢_}
 use mathlib.Core.Bool.{Bool, true, false, _&&_}
 use native.Mathlib.Omega.{arith}
 use native.Mathlib.Numerals.{add-one}
-use lib.Dec.{leb}
-use borrow.Author.Tests.{le-leb, lt-leb, leb-true}
+use lib.Dec.{eqb, leb}
+use borrow.Author.Tests.{eqb-true, eqb-false, le-leb, lt-leb, leb-true}
 use Rattle.sets.proofs.Tests.{cases, and-l, and-r}
 use Rattle.tree.specs.Places.{levelSize, levelStart, cellCount, sizeWithin, startWithin, countWithin}
-use Rattle.tree.proofs.Sizes.{size-past, start-suc, start-le, cells-most}
+use Rattle.tree.proofs.Sizes.{size-past, start-suc, start-le, start-past, cells-most}
 
 -- n is from 1 to 7.
 abbrev limits : ℕ → Bool
@@ -42,25 +43,45 @@ pub count-within : (n : ℕ) → 0 < n → n ≤ 7 → countWithin n ≡ cellCou
 unfolding countWithin
 count-within n p l = rw (limits-true n p l)
 
-pub size-none : (n k : ℕ) → n ≡ 0 → sizeWithin n k ≡ 0
-unfolding sizeWithin
-size-none n k e = rw (limits-none n e)
-
 pub size-over : (n k : ℕ) → 7 < n → sizeWithin n k ≡ 0
 unfolding sizeWithin
 size-over n k l = rw (limits-past n l)
 
--- No level is past 7.
-pub size-deep : (n k : ℕ) → 7 < k → sizeWithin n k ≡ 0
-unfolding sizeWithin
-size-deep n k l =
-    cases (limits n)
-    (λ e. rw e (size-past n k (limits-low n e) (omega (arith, limits-high n e))))
-    (λ e. rw e)
+-- Level 0 and the levels past n have no places, whatever n is.
+pub size-zero : (n : ℕ) → sizeWithin n 0 ≡ 0
+unfolding sizeWithin levelSize
+size-zero n = cases (limits n) (λ e. rw e) (λ e. rw e)
 
-pub start-zero : (n : ℕ) → startWithin n 0 ≡ 0
-unfolding startWithin levelStart
-start-zero n = cases (limits n) (λ e. rw e) (λ e. rw e)
+pub size-deep : (n k : ℕ) → n < k → sizeWithin n k ≡ 0
+unfolding sizeWithin
+size-deep n k l = cases (limits n) (λ e. rw e (size-past n k (limits-low n e) l)) (λ e. rw e)
+
+start-none : (n k : ℕ) → n ≡ 0 → startWithin n k ≡ 0
+unfolding startWithin
+start-none n k e = rw (limits-none n e)
+
+pub start-over : (n k : ℕ) → 7 < n → startWithin n k ≡ 0
+unfolding startWithin
+start-over n k l = rw (limits-past n l)
+
+-- The code counts from level k, or from the one past n if k is further down: both start where level k does.
+pub start-near : (n k : ℕ) → n ≤ 7 → k ≤ n → levelStart n k ≡ startWithin n k
+unfolding levelStart
+start-near n k m l =
+    cases (eqb n 0)
+    (λ e. let none : n ≡ 0 = eqb-true n 0 e in
+    let first : k ≡ 0 = omega arith in
+    ap (levelStart n) first ∙ sym (start-none n k none))
+    (λ e. let some : n ≢ 0 = eqb-false n 0 e in sym (start-within n k (omega arith) m))
+
+pub start-deep : (n k : ℕ) → n ≤ 7 → n < k → levelStart n (n + 1) ≡ startWithin n k
+unfolding levelStart levelSize
+start-deep n k m l =
+    cases (eqb n 0)
+    (λ e. let none : n ≡ 0 = eqb-true n 0 e in
+    let first : n + 1 ≡ 1 = omega arith in
+    ap (levelStart n) first ∙ sym (start-none n k none))
+    (λ e. let some : n ≢ 0 = eqb-false n 0 e in start-past n k (omega arith) l ∙ sym (start-within n k (omega arith) m))
 
 -- A level starts where the one before it ends.
 pub start-next : (n k : ℕ) → startWithin n (k + 1) ≡ startWithin n k + sizeWithin n k

@@ -6,18 +6,16 @@ use mathlib.Core.Bool.{Bool, true, false, not, _&&_, _||_}
 use mathlib.Core.List.{List, [], _∷_, _++_, append-nil, append-assoc, flatMap, List·Memᴰ, List·Memᴰ·head, List·Memᴰ·tail}
 use native.Mathlib.Omega.{arith}
 use native.Mathlib.Nat.{mul-le-mul-right}
-use lib.Dec.{eqb, leb, ltb}
+use lib.Dec.{eqb}
 use lib.ListN.{length}
-use borrow.Author.Tests.{leb-true, ltb-true, ltb-false}
 use Rattle.sets.proofs.Tests.{cases, clash, is-false, and-l, not-t, true-not, or-r}
 use Rattle.plan.specs.declared.plan.Plan.{Plan}
 use Rattle.tree.specs.Labels.{Label, occurs, childrenFrom, children, childrenOf, labels}
 use Rattle.tree.specs.Places.{levelSize}
-use Rattle.tree.proofs.Below.{all, all-at}
 use Rattle.tree.proofs.Children.{of-size}
 use Rattle.tree.proofs.Labels.{label-below}
 use Rattle.tree.proofs.Ranks.{label-width}
-use Rattle.tree.proofs.Sizes.{size-past}
+use Rattle.tree.proofs.Sizes.{size-most}
 use Rattle.protocol.specs.Nodes.{filter, internal, nodes, inner, carried}
 use Rattle.protocol.proofs.Few.{filter-append, filter-length}
 use Rattle.protocol.proofs.Nodes.{filter-inv, inner-inv, node-label}
@@ -121,16 +119,6 @@ unfolding filter
 filter-all f [] h = refl
 filter-all f (α ∷ αs) h = rw (h α (List·Memᴰ·head refl), filter-all f αs (λ β m. h β (List·Memᴰ·tail m)))
 
--- A level has at most 720 labels.
-pub size-most : (n k : ℕ) → 0 < n → n ≤ 7 → levelSize n k ≤ 720
-unfolding levelSize
-size-most n k some l =
-    cases (ltb k 8)
-    (λ e. leb-true (levelSize n k) 720
-    (all-at (λ j. leb (levelSize n j) 720) 8
-    (all-at (λ i. all (λ j. leb (levelSize i j) 720) 8) 8 refl n (omega arith)) k (ltb-true k 8 e)))
-    (λ e. omega (arith, size-past n k some (omega (arith, ltb-false k 8 e))))
-
 module _ (p : Plan) (i : ℕ) (ld : p .dealer < p .n) where
   pub inner-label : (k : ℕ) (α : Label) → List·Memᴰ α (inner p i k) → List·Memᴰ α (labels (p .n) (p .dealer) k)
   inner-label k α m = node-label p i k α (inner-inv p i k α m .0)
@@ -174,4 +162,4 @@ module _ (p : Plan) (i : ℕ) (ld : p .dealer < p .n) where
 
   pub inner-few : (k : ℕ) → p .n ≤ 7 → length (inner p i k) ≤ 720
   unfolding inner
-  inner-few k l = omega (arith, filter-length (internal p i) (nodes p i k), nodes-few k, size-most (p .n) k (omega arith) l)
+  inner-few k l = omega (arith, filter-length (internal p i) (nodes p i k), nodes-few k, size-most (p .n) k l)
