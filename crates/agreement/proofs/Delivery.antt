@@ -17,6 +17,7 @@ use Rattle.plan.specs.Values.{value}
 use Rattle.schedule.specs.declared.rounds.Round.{Round}
 use Rattle.schedule.specs.Schedule.{steps, stepRun, stepRound}
 use Rattle.tree.specs.Labels.{Label, occurs}
+use Rattle.tree.specs.Cells.{cellAt}
 use Rattle.theory.specs.Tree as T
 use Rattle.protocol.specs.Listing.{asSet}
 use Rattle.protocol.specs.Nodes.{read, nodes, inner, sent, due, frame}
@@ -130,12 +131,15 @@ module _ (s : Setting) (a : Adversary) (sound : Sound s) where
         (told-frame j i q kq l) (read-small plan default-below (at s a j q .cells) α))
 
     -- Cells of other levels than the round's stay in this step.
+    pub scanned-cell : (b : ℕ) (γ : Label) → IsLabel plan (good-dealer rec rec-good) b γ → b ≢ stepRound plan (suc j) .0
+        → cellAt (plan .n) (scanned .cells) γ ≡ cellAt (plan .n) (at s a j i .cells) γ
+    scanned-cell b γ w ne =
+        let out : List·Memᴰ γ (nodes plan i (stepRound plan (suc j) .0)) → ⊥ = λ y. ne (other-level plan (good-dealer rec rec-good) i b (stepRound plan (suc j) .0) γ w y) in
+        detect-outside plan (good-dealer rec rec-good) i (stepRun plan (suc j)) (stepRound plan (suc j)) (stepRound plan (suc j) .0) (inner plan i (stepRound plan (suc j) .0 - 1))
+        (record { list = at s a j i .rec .list; cells = stored-cells }) (λ _ y. y) (rec-good .position .round-low) b γ w out
+        ∙ filled-outside rec rec-good refl (told s a i j) (at s a j i .cells) (st .room) b γ w out
+
     pub scanned-other : (b : ℕ) (γ : Label) → IsLabel plan (good-dealer rec rec-good) b γ → b ≢ stepRound plan (suc j) .0
         → read plan (scanned .cells) γ ≡ read plan (at s a j i .cells) γ
     unfolding read
-    scanned-other b γ w ne =
-        let out : List·Memᴰ γ (nodes plan i (stepRound plan (suc j) .0)) → ⊥ = λ y. ne (other-level plan (good-dealer rec rec-good) i b (stepRound plan (suc j) .0) γ w y) in
-        ap (value plan)
-        (detect-outside plan (good-dealer rec rec-good) i (stepRun plan (suc j)) (stepRound plan (suc j)) (stepRound plan (suc j) .0) (inner plan i (stepRound plan (suc j) .0 - 1))
-        (record { list = at s a j i .rec .list; cells = stored-cells }) (λ _ y. y) (rec-good .position .round-low) b γ w out
-        ∙ filled-outside rec rec-good refl (told s a i j) (at s a j i .cells) (st .room) b γ w out)
+    scanned-other b γ w ne = ap (value plan) (scanned-cell b γ w ne)

@@ -39,10 +39,10 @@ use Rattle.protocol.proofs.Judgement.{open-taken, record-taken, board-taken, ce
 use Rattle.synchronous.proofs.Reached.{reached-begun}
 use Rattle.synchronous.proofs.Synchronous.{keeper-facts}
 use Rattle.protocol.proofs.Taken.{open-closing}
-use Rattle.agreement.specs.Lists.{Call, closes, decides, caller, answers, state, Prefix, Stands, Fair, closings, EndsRun, root, list, onEvery, listAfter, healthyList, Agreement, Demand3}
+use Rattle.agreement.specs.Lists.{Call, closes, decides, caller, answers, state, Prefix, Stands, Fair, closings, PastLast, EndsRun, root, list, onEvery, listAfter, healthyList, Agreement, Demand3}
 use Rattle.agreement.specs.Claims.{SessionAgreement, ended, rootAfter, listEnded}
 use Rattle.agreement.proofs.Runs.{lists-grow}
-use Rattle.agreement.proofs.Session.{synchronous}
+use Rattle.agreement.proofs.Session.{root-decided, dealers-root, root-shown, synchronous}
 use Rattle.agreement.proofs.Prefixes.{prefix-refl, prefix-trans, stands-prefix, stands-next}
 use Rattle.agreement.proofs.Called.{reached-after}
 use Rattle.agreement.proofs.Healthy.{is-keeper, list-placed}
@@ -208,6 +208,28 @@ module _ (s : Setting) (calls : List Call) (sound : Sound s) (fair : Fair s call
       (count-same (onEvery s (listEnded s faulty t)) (onEvery s (λ i. list s i (before i))) (plan .n) (λ r _. every t before e r))
       (agreed .bound cut t low-t high-t i k ki kk (λ z. ne (roots i ki ∙ z ∙ sym (roots k kk))))
 
+  -- While an undecided board stands in run t + 1, its first cell is its root after run t.
+  first-cell : (t i : ℕ) (before : List Call) → keeper s i ≡ true → Prefix before calls → 1 ≤ t
+      → state s before i .rec .decided ≡ false → state s before i .rec .run .0 ≡ t + 1 → getD (state s before i .cells) 0 blank ≡ rootAfter s faulty t i
+  first-cell t i before ki pre low-t undecided in-run =
+      let there = here before pre i ki in
+      let j = closings (begun s) i before in
+      let l : j < steps plan = below-or-end j (steps plan) (there .most) (λ l. l) (λ z. clash (there .decided z) undecided) in
+      let (past, held) = root-shown s faulty sound t j i low-t l (ap (λ (u : Run). u .0) (sym (there .run l)) ∙ in-run) ki in
+      there .root past ∙ held
+
+  -- A board that has closed the last run is past its last round.
+  past-last : (i : ℕ) (before : List Call) → keeper s i ≡ true → EndsRun s (runs plan .0) i before calls → PastLast s calls i
+  unfolding S.step steps
+  past-last i before ki e =
+      omega (
+        arith,
+        one-more (runs plan .0) i before ki e,
+        step-is (runs plan .0) i before ki e,
+        here calls (prefix-refl calls) i ki .most,
+        closings-mono s i (before ++ (closes i ∷ [])) calls (stands-next (closes i) before calls (e .stands)),
+      )
+
   -- The list that a closing left is the board's list after it.
   list-left : (i : ℕ) (before : List Call) → list s i before ≡ listAfter s (before ++ (closes i ∷ [])) i
   unfolding list listAfter
@@ -269,6 +291,17 @@ module _ (s : Setting) (calls : List Call) (sound : Sound s) (fair : Fair s call
         x ∙ agreed .dealers f i ki;
     bound = bounded;
     bound-now = bounded-now;
+    stays = λ t u v before i later e one le ki e′.
+        let (low-t, _) = run-in t i (before i) ki (e i ki) in
+        let (_, high-u) = run-in u i later ki e′ in
+        root-is u i later ki e′ ∙ agreed .stays t u v low-t le high-u (λ k kk. sym (root-is t k (before k) kk (e k kk)) ∙ one k kk) i ki;
+    dealers-root = λ f t i before ki e.
+        let (low-t, high-t) = run-in t i before ki e in
+        root-is t i before ki e ∙ dealers-root s faulty sound f t i low-t high-t ki;
+    root-shown = λ t i before later ki e pre undecided in-run.
+        first-cell t i later ki pre (run-in t i before ki e .0) undecided in-run ∙ sym (root-is t i before ki e);
+    root-decided = λ i before ki e.
+        now i ki .decision (past-last i before ki e) ∙ root-decided s faulty sound i ki ∙ sym (root-is (runs plan .0) i before ki e);
   }
 
 pub demand3 : Demand3

@@ -51,10 +51,10 @@ everywhere-at f done (x ∷ todo) e c (y ∷ before) st =
     c before (st .0, tail-eq-of-cons-eq (st .1)) in
     subst (λ z. f z c ≡ true) (append-snoc done x before ∙ ap (λ z. done ++ (z ∷ before)) (head-eq-of-cons-eq (st .1))) later
 
--- Does it pass at some place?
+-- Does it pass at some place? The last places are tried first: what is looked for is of the round being closed.
 unfoldable pub somewhere : (List Call → Call → Bool) → List Call → List Call → Bool
 somewhere f done [] = false
-somewhere f done (c ∷ rest) = f done c || somewhere f (done ++ (c ∷ [])) rest
+somewhere f done (c ∷ rest) = somewhere f (done ++ (c ∷ [])) rest || f done c
 
 pub record Place (f : List Call → Call → Bool) (done todo : List Call) : Type 0 where
   pub call : Call
@@ -67,7 +67,6 @@ unfolding somewhere
 somewhere-at f done [] e = clash e refl
 somewhere-at f done (x ∷ todo) e =
     ⊎-elim
-    (λ now. record { call = x; before = []; stands = (todo, refl); passes = subst (λ z. f z x ≡ true) (sym (append-nil done)) now })
     (λ later.
     let p = somewhere-at f (done ++ (x ∷ [])) todo later in
     record {
@@ -76,7 +75,8 @@ somewhere-at f done (x ∷ todo) e =
       stands = (p .stands .0, ap (λ z. x ∷ z) (p .stands .1));
       passes = subst (λ z. f z (p .call) ≡ true) (append-snoc done x (p .before)) (p .passes);
     })
-    (or-true (f done x) (somewhere f (done ++ (x ∷ [])) todo) e)
+    (λ now. record { call = x; before = []; stands = (todo, refl); passes = subst (λ z. f z x ≡ true) (sym (append-nil done)) now })
+    (or-true (somewhere f (done ++ (x ∷ [])) todo) (f done x) e)
 
 -- The same run and round.
 unfoldable pub alike : Setting → ℕ → List Call → ℕ → List Call → Bool
@@ -105,7 +105,7 @@ writes s before i q f earlier (receives j p g) = false
 writes s before i q f earlier (sends j out) =
     let r = sending (state s earlier q) out in
     let size = getD (r .answer .values) 0 0 in
-    (eqb j q && (isTaken (r .answer) && sameList (r .answer .values) (size ∷ []))) && (alike s q earlier i before && sameList f (take size (r .out)))
+    (eqb j q && alike s q earlier i before) && ((isTaken (r .answer) && sameList (r .answer .values) (size ∷ [])) && sameList f (take size (r .out)))
 writes s before i q f earlier (closes j) = false
 writes s before i q f earlier (decides j) = false
 
@@ -117,22 +117,24 @@ writes-written s before i q f earlier (sends j out) st e =
     let r = sending (state s earlier q) out in
     let size = getD (r .answer .values) 0 0 in
     let one = sameList (r .answer .values) (size ∷ []) in
-    let who = eqb j q && (isTaken (r .answer) && one) in
+    let now = alike s q earlier i before in
+    let who = eqb j q && now in
+    let said = isTaken (r .answer) && one in
     let what = sameList f (take size (r .out)) in
-    let front : who ≡ true = and-l who (alike s q earlier i before && what) e in
-    let back : (alike s q earlier i before && what) ≡ true = and-r who (alike s q earlier i before && what) e in
-    let answer : (isTaken (r .answer) && one) ≡ true = and-r (eqb j q) (isTaken (r .answer) && one) front in
+    let front : who ≡ true = and-l who (said && what) e in
+    let back : (said && what) ≡ true = and-r who (said && what) e in
+    let answer : said ≡ true = and-l said what back in
     let toOutcome : ℕ → List ℕ → Outcome = λ k vs. record { number = k; values = vs } in
     record {
       earlier = earlier;
       out = out;
       size = size;
-      stands = subst (λ k. Stands (sends k out) earlier before) (eqb-true j q (and-l (eqb j q) (isTaken (r .answer) && one) front)) st;
+      stands = subst (λ k. Stands (sends k out) earlier before) (eqb-true j q (and-l (eqb j q) now front)) st;
       wrote =
           ap₂ toOutcome (is-taken (r .answer) (and-l (isTaken (r .answer)) one answer))
           (same-list (r .answer .values) (size ∷ []) (and-r (isTaken (r .answer)) one answer));
-      same = alike-same s q earlier i before (and-l (alike s q earlier i before) what back);
-      gave = same-list f (take size (r .out)) (and-r (alike s q earlier i before) what back);
+      same = alike-same s q earlier i before (and-r (eqb j q) now front);
+      gave = same-list f (take size (r .out)) (and-r said what back);
     }
 writes-written s before i q f earlier (closes j) st e = clash e refl
 writes-written s before i q f earlier (decides j) st e = clash e refl
@@ -160,7 +162,7 @@ truthful-sent s before i q f told =
 unfoldable pub hands : Setting → List Call → ℕ → ℕ → List Call → Call → Bool
 hands s before i q earlier (receives j p f) =
     (eqb j i && eqb p q)
-    && ((isTaken (answers (receives i q f) (state s earlier i)) && alike s i earlier i before) && truthful s earlier i q f)
+    && ((alike s i earlier i before && isTaken (answers (receives i q f) (state s earlier i))) && truthful s earlier i q f)
 hands s before i q earlier (sends j out) = false
 hands s before i q earlier (closes j) = false
 hands s before i q earlier (decides j) = false
@@ -171,7 +173,8 @@ unfolding hands caller
 hands-handed s before i q earlier (receives j p f) st e =
     let a = answers (receives i q f) (state s earlier i) in
     let who = eqb j i && eqb p q in
-    let when = isTaken a && alike s i earlier i before in
+    let now = alike s i earlier i before in
+    let when = now && isTaken a in
     let told = truthful s earlier i q f in
     let front : who ≡ true = and-l who (when && told) e in
     let back : (when && told) ≡ true = and-r who (when && told) e in
@@ -183,8 +186,8 @@ hands-handed s before i q earlier (receives j p f) st e =
         earlier = earlier;
         frame = f;
         stands = subst (λ k. Stands (receives i k f) earlier before) from (subst (λ k. Stands (receives k p f) earlier before) to st);
-        taken = is-taken a (and-l (isTaken a) (alike s i earlier i before) then);
-        same = alike-same s i earlier i before (and-r (isTaken a) (alike s i earlier i before) then);
+        taken = is-taken a (and-r now (isTaken a) then);
+        same = alike-same s i earlier i before (and-l now (isTaken a) then);
       };
       as-sent = truthful-sent s earlier i q f (and-r when told back);
     }
@@ -195,7 +198,7 @@ hands-handed s before i q earlier (decides j) st e = clash e refl
 -- A frame that board i lacks.
 unfoldable pub lacks : Setting → List Call → ℕ → ℕ → Bool
 lacks s before i q =
-    due (s .plan) q i (state s before i .rec .round) && (not (member q (s .faulty)) && not (somewhere (hands s before i q) [] before))
+    not (member q (s .faulty)) && (due (s .plan) q i (state s before i .rec .round) && not (somewhere (hands s before i q) [] before))
 
 -- What fairness asks of a call.
 unfoldable pub fairCall : Setting → List Call → Call → Bool
@@ -228,7 +231,7 @@ fair-heard s i before e t q h d =
     let handed = somewhere (hands s before i q) [] before in
     let none : any (lacks s before i) (s .plan .n) ≡ false = not-t _ (if-taken (answers (closes i) (state s before i)) _ (and-r (keeper s i) _ e) t) in
     let there : handed ≡ true = cases handed (λ x. x) (λ x. clash (any-of (lacks s before i) (s .plan .n) q (due-sender (s .plan) q i k d)
-    (and-true (due (s .plan) q i k) _ d (and-true (not (member q (s .faulty))) (not handed) (true-not _ h) (true-not handed x)))) none) in
+    (and-true (not (member q (s .faulty))) _ (true-not _ h) (and-true (due (s .plan) q i k) (not handed) d (true-not handed x)))) none) in
     let p = somewhere-at (hands s before i q) [] before there in
     hands-handed s before i q (p .before) (p .call) (p .stands) (p .passes)
 

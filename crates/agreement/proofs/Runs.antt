@@ -4,11 +4,11 @@ use Prim.Native.Nat.{ℕ, zero, suc, _+_, _-_, _≤_, _<_}
 use mathlib.Core.Path.{_≡_, refl, sym, _∙_, ap, subst}
 use mathlib.Core.Logic.{_≢_, ⊎-elim}
 use mathlib.Core.Bool.{true, false, not, _&&_, _||_}
-use mathlib.Core.List.{_∷_, List·Memᴰ}
+use mathlib.Core.List.{[], _∷_, List·Memᴰ}
 use mathlib.Core.Option.{some}
 use native.Mathlib.Omega.{arith}
 use lib.Dec.{ltb}
-use lib.ListN.{length}
+use lib.ListN.{length, getD}
 use borrow.Author.Tests.{ltb-true, ltb-false}
 use Rattle.sets.specs.Sets.{member}
 use Rattle.sets.specs.Only.{same}
@@ -19,6 +19,9 @@ use Rattle.schedule.specs.declared.rounds.Round.{Round}
 use Rattle.schedule.specs.Schedule.{rounds, steps, step, stepRun, stepRound}
 use Rattle.schedule.proofs.Steps.{Has, round-of-step}
 use Rattle.tree.specs.Labels.{Label, occurs, last}
+use Rattle.tree.specs.Cells.{blank}
+use Rattle.tree.proofs.Labels.{root-has}
+use Rattle.tree.proofs.Cells.{root-cell}
 use Rattle.theory.specs.Tree as T
 use Rattle.protocol.specs.Listing.{asSet}
 use Rattle.protocol.specs.Nodes.{read, inner}
@@ -35,7 +38,7 @@ use Rattle.synchronous.proofs.Synchronous.{told, keeper-facts, standing, positi
 use Rattle.agreement.proofs.Instance.{inst, resolve-inst}
 use Rattle.agreement.proofs.RuleG.{scan-grow, scan-cell, scan-spared, SparedBy}
 use Rattle.agreement.proofs.RuleC.{levels-spared, convert-grow}
-use Rattle.agreement.proofs.Delivery.{most-boards, is-due, st, rec, rec-good, scanned, scanned-other}
+use Rattle.agreement.proofs.Delivery.{most-boards, is-due, st, rec, rec-good, scanned, scanned-cell, scanned-other}
 use Rattle.agreement.proofs.Soundness.{open-round, inv, scan-is, within-run, run-ends, room, dealer-below, lists-within}
 
 module _ (s : Setting) (a : Adversary) (sound : Sound s) where
@@ -83,6 +86,15 @@ module _ (s : Setting) (a : Adversary) (sound : Sound s) where
         → read plan (scan j i .cells) γ ≡ read plan (at s a j i .cells) γ
     scan-other b γ w ne = ap (λ x. read plan (x .cells) γ) is-scanned ∙ scanned-other s a sound j i ki l b γ w ne
 
+    -- So past round 1 does the first cell, the root's.
+    pub scan-first : 2 ≤ open-round s a sound j → getD (scan j i .cells) 0 blank ≡ getD (at s a j i .cells) 0 blank
+    scan-first later =
+        let n = plan .n in
+        let d = plan .dealer in
+        ap (λ x. getD (x .cells) 0 blank) is-scanned ∙ sym (root-cell n d (scanned s a sound j i ki l .cells))
+        ∙ scanned-cell s a sound j i ki l 1 (d ∷ []) (root-has n d) (let z : 1 ≢ open-round s a sound j = omega arith in z)
+        ∙ root-cell n d (at s a j i .cells)
+
     -- The next round of the run.
     pub next-open : open-round s a sound j < R → open-round s a sound (suc j) ≡ open-round s a sound j + 1
     next-open h =
@@ -122,6 +134,18 @@ module _ (s : Setting) (a : Adversary) (sound : Sound s) where
         ∙ run-keeps m (suc j) (omega arith) (omega arith) ld b γ w (omega arith)
         ∙ scan-other (suc j) i ki l′ b γ w (let z : b ≢ open-round s a sound (suc j) = omega arith in z)
         ∙ ap (λ c. read plan c γ) (next-board j i ki l lt .1)
+
+    -- The first cell stays from a round past the first to a later one of the run, m steps on.
+    pub first-stays : (m j : ℕ) → 2 ≤ open-round s a sound j → open-round s a sound j + m ≤ R → j + m < steps plan
+        → getD (at s a (j + m) i .cells) 0 blank ≡ getD (at s a j i .cells) 0 blank
+    first-stays zero j later e h = ap (λ x. getD (at s a x i .cells) 0 blank) (let z : j + 0 ≡ j = omega arith in z)
+    first-stays (suc m) j later e h =
+        let l : j < steps plan = omega arith in
+        let lt : open-round s a sound j < R = omega arith in
+        let next = next-open j i ki l lt in
+        ap (λ x. getD (at s a x i .cells) 0 blank) (let z : j + suc m ≡ suc j + m = omega arith in z)
+        ∙ first-stays m (suc j) (omega arith) (omega arith) (omega arith)
+        ∙ ap (λ c. getD c 0 blank) (next-board j i ki l lt .1) ∙ scan-first j i ki l later
 
   -- The end of a run: step jE, which closes round R.
   module _ (jE : ℕ) (lE : jE < steps plan) (end : open-round s a sound jE ≡ R) (i : ℕ) (ki : keeper s i ≡ true) where

@@ -17,10 +17,11 @@ use Rattle.sets.proofs.Count.{count-same}
 use Rattle.sets.proofs.Member.{member-within, member-setOf, setOf-below, size-count}
 use Rattle.plan.specs.declared.plan.Plan.{Plan}
 use Rattle.heights.specs.Levels.{depthOf, isCut}
-use Rattle.schedule.specs.Schedule.{rounds, runs, steps, stepRun}
+use Rattle.schedule.specs.declared.rounds.Round.{Round}
+use Rattle.schedule.specs.Schedule.{rounds, runs, steps, step, stepRun, stepRound}
 use Rattle.schedule.proofs.Levels.{rounds-pos, runs-pos, rounds-full, rounds-cut}
 use Rattle.heights.proofs.Heights.{height-most}
-use Rattle.schedule.proofs.Steps.{runs-enough, cut-four}
+use Rattle.schedule.proofs.Steps.{Has, run-split, step-has, step-of-round, round-of-step, runs-enough, cut-four}
 use Rattle.tree.specs.Cells.{blank}
 use Rattle.theory.specs.Tree as T
 use Rattle.theory.specs.Runs as U
@@ -39,6 +40,7 @@ use Rattle.agreement.specs.Claims.{ended, rootAfter, listEnded, SessionA
 use Rattle.agreement.proofs.Instance.{inst, boardsOf}
 use Rattle.agreement.proofs.Delivery.{good, healthy, healthy-keeper, st}
 use Rattle.agreement.proofs.Soundness.{open-round, inv, run-ends, lists-within}
+use Rattle.agreement.proofs.Runs.{first-stays}
 use Rattle.agreement.proofs.TheorySession.{last-step, in-time, at-end, number, run-number, lists, roots, resolved, left-root, session}
 
 module _ (s : Setting) (a : Adversary) (sound : Sound s) where
@@ -88,6 +90,48 @@ module _ (s : Setting) (a : Adversary) (sound : Sound s) where
         ap (λ x. at s a x i .rec .decision) (sym last-of-all) ∙ ap (λ (b : Board). b .rec .decision) e ∙ rw last (resolved s a sound last-run i),
       )
 
+  -- The decision is the root after the last run.
+  pub root-decided : (i : ℕ) → keeper s i ≡ true → at s a (steps plan) i .rec .decision ≡ rootAfter s a (runs plan .0) i
+  root-decided i ki =
+      let z : suc last-run ≡ runs plan .0 = omega (arith, runs-pos plan) in
+      decision i ki .1 ∙ sym (root-after last-run in-runs i ki) ∙ ap (λ x. rootAfter s a x i) z
+
+  -- A healthy dealer's value is the root after every run.
+  pub dealers-root : member (plan .dealer) F ≡ false → (t i : ℕ) → 1 ≤ t → t ≤ runs plan .0 → keeper s i ≡ true → rootAfter s a t i ≡ s .word
+  dealers-root f t i low high ki =
+      let lt : t - 1 < runs plan .0 = omega arith in
+      ap (λ x. rootAfter s a x i) (let z : t ≡ suc (t - 1) = omega arith in z) ∙ root-after (t - 1) lt i ki
+      ∙ validity (good s a sound) (session s a sound) f (t - 1) i lt (healthy s a sound i ki)
+
+  -- In the run after t a board is past step 1, and its first cell is the root after run t.
+  pub root-shown : (t j i : ℕ) → 1 ≤ t → j < steps plan → stepRun plan (suc j) .0 ≡ t + 1 → keeper s i ≡ true
+      → (0 < j) × (getD (at s a j i .cells) 0 blank ≡ rootAfter s a t i)
+  unfolding rootAfter ended step
+  root-shown t j i low l in-run ki =
+      let w = rounds plan .0 - 1 in
+      let k = open-round s a sound j in
+      let h = step-has plan (suc j) (omega arith) (omega arith) in
+      let later : 2 ≤ k = h .round-later (let z : stepRun plan (suc j) .0 ≢ 1 = omega (arith, in-run) in z) in
+      let start = step plan (record { 0 = t }) (rounds plan) in
+      let split = run-split t w low in
+      let back : t + 1 - 1 ≡ t = omega arith in
+      let second : Has plan (record { 0 = t + 1 }) (record { 0 = 2 }) = record {
+        run-low = omega arith;
+        run-high = omega (arith, in-run, h .run-high);
+        round-low = omega arith;
+        round-later = λ _. omega arith;
+        round-high = omega (arith, h .round-high);
+      } in
+      let next : suc start ≡ step plan (record { 0 = t + 1 }) (record { 0 = 2 }) = omega (arith, rounds-pos plan, ap (λ x. x * w) back) in
+      let opens : open-round s a sound start ≡ 2 =
+      ap (λ x. stepRound plan x .0) next ∙ ap (λ (r : Round). r .0) (round-of-step plan (record { 0 = t + 1 }) (record { 0 = 2 }) second) in
+      let number-of : (stepRun plan (suc j) .0 - 1) * w + k ≡ suc j = step-of-round plan (suc j) (omega arith) (omega arith) in
+      let here : start + (k - 2) ≡ j = omega (arith, rounds-pos plan, ap (λ x. (x - 1) * w) in-run, ap (λ x. x * w) back) in (
+        omega arith,
+        ap (λ x. getD (at s a x i .cells) 0 blank) (sym here)
+            ∙ first-stays s a sound i ki (k - 2) start (omega arith) (omega (arith, h .round-high)) (omega arith),
+      )
+
   -- A tolerated set with the dealer has fewer boards than a tree that is not cut has levels.
   small-sets : isCut plan ≡ false → (b : T.Boards) → tol plan b ≡ true → b (plan .dealer) ≡ true → count b (plan .n) ≤ rounds plan .0 - 1
   unfolding tol
@@ -125,7 +169,7 @@ module _ (s : Setting) (a : Adversary) (sound : Sound s) where
     sound = λ j i h ki. member-within (plan .n) (asSet (at s a j i .rec .list)) F (list-below j i h ki) (lists-within s a sound j i h ki);
     decided = λ i ki. decision i ki .0;
     equal = λ i k ki kk. decision i ki .1 ∙ agreed i k ki kk ∙ sym (decision k kk .1);
-    dealers = λ f i ki. decision i ki .1 ∙ validity (good s a sound) (session s a sound) f last-run i in-runs (healthy s a sound i ki);
+    dealers = λ f i ki. root-decided i ki ∙ dealers-root f (runs plan .0) i (runs-pos plan) (omega arith) ki;
     stays = λ t u v low le high h i ki. stay (t - 1) (u - 1) v t u (omega arith) (omega arith) le high h i ki;
     bound = λ e t low high i k ki kk ne. bounded e (t - 1) t (omega arith) high i k ki kk ne;
   }

@@ -13,7 +13,7 @@ use Rattle.sets.specs.Structure.{holder}
 use Rattle.plan.specs.Listed.{listed}
 use Rattle.refusals.specs.Outcome.{Outcome, taken}
 use Rattle.heights.specs.Levels.{depthOf, isCut}
-use Rattle.schedule.specs.Schedule.{rounds, steps}
+use Rattle.schedule.specs.Schedule.{rounds, runs, steps}
 use Rattle.tree.specs.Cells.{blank}
 use Rattle.protocol.specs.declared.records.Slot.{Slot}
 use Rattle.protocol.specs.Listing.{asSet}
@@ -212,6 +212,21 @@ pub record Agreement (s : Setting) (calls : List Call) : Type 0 where
   pub bound-now : isCut (s .plan) ≡ true → (t : ℕ) (before : ℕ → List Call) → ((i : ℕ) → keeper s i ≡ true → EndsRun s t i (before i) calls)
       → (i j : ℕ) → keeper s i ≡ true → keeper s j ≡ true → root s i (before i) ≢ root s j (before j)
       → t * (depthOf (s .plan) - 3) + 1 ≤ count (onEvery s (listAfter s calls)) (s .plan .n)
+  -- 02 f: "let the boards outside F that keep cells hold one root after some run. Then they hold that same root after each later run." All
+  -- of them have closed run t, each after the calls `before`, and hold v. It speaks of each of them that has closed run u, after the calls
+  -- `now`, whether or not the others have; u may be t.
+  pub stays : (t u v : ℕ) (before : ℕ → List Call) (i : ℕ) (now : List Call)
+      → ((k : ℕ) → keeper s k ≡ true → EndsRun s t k (before k) calls) → ((k : ℕ) → keeper s k ≡ true → root s k (before k) ≡ v)
+      → t ≤ u → keeper s i ≡ true → EndsRun s u i now calls → root s i now ≡ v
+  -- "If the dealer is outside F, this is so from run 1": the dealer's value is the root of each of them after every run that it has closed
+  pub dealers-root : member (s .plan .dealer) (s .faulty) ≡ false
+      → (t i : ℕ) (before : List Call) → keeper s i ≡ true → EndsRun s t i before calls → root s i before ≡ s .word
+  -- When it can be read: while an undecided board stands in run t + 1, its first cell is its root after run t.
+  pub root-shown : (t i : ℕ) (before now : List Call) → keeper s i ≡ true → EndsRun s t i before calls → Prefix now calls
+      → state s now i .rec .decided ≡ false → state s now i .rec .run .0 ≡ t + 1 → getD (state s now i .cells) 0 blank ≡ root s i before
+  -- 01: "or the decision, which is the root": after the last run
+  pub root-decided : (i : ℕ) (before : List Call) → keeper s i ≡ true → EndsRun s (runs (s .plan) .0) i before calls
+      → state s calls i .rec .decision ≡ root s i before
 
 -- Demand 3.
 abbrev pub Demand3 : Type 0

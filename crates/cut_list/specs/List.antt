@@ -1,9 +1,9 @@
 -- A fair list of calls on a cut tree: after run 1 the roots of the two boards outside F are unequal, so the bound of demand 3 speaks of it.
-use Prim.Native.Nat.{ℕ, zero, suc}
+use Prim.Native.Nat.{ℕ}
 use mathlib.Core.Bool.{cond}
 use mathlib.Core.List.{List, [], _∷_}
 use lib.Dec.{eqb}
-use lib.ListN.{replicate}
+use lib.ListN.{replicate, take}
 use Rattle.plan.specs.Calls.{planOn}
 use Rattle.protocol.specs.Session.{Setting}
 use Rattle.agreement.specs.Lists.{Call, receives, sends, closes, decides}
@@ -63,11 +63,6 @@ cutCalls =
     ∷ receives 0 2 (1 ∷ [])
     ∷ []
 
-unfoldable pub takeCalls : ℕ → List Call → List Call
-takeCalls zero cs = []
-takeCalls (suc k) [] = []
-takeCalls (suc k) (c ∷ cs) = c ∷ takeCalls k cs
-
 -- The calls before each board's closing of run 1.
 unfoldable pub cutBefore : ℕ → List Call
-cutBefore i = takeCalls (cond (eqb i 2) 30 31) cutCalls
+cutBefore i = take (cond (eqb i 2) 30 31) cutCalls

@@ -1,1 +1,2 @@
-// A fair list of calls on a cut tree, after which roots are unequal. There is no code: specs/ has the list, proofs/ shows that it is fair.
+// Fair lists of calls on cut trees: one after which roots are unequal, and one in which a root stays. There is no code: specs/ has the lists,
+// proofs/ shows that they are fair.

@@ -24,7 +24,8 @@ use Rattle.tree.specs.Labels.{Label}
 use Rattle.tree.proofs.Labels.{label-length, root-has}
 use Rattle.tree.specs.Places.{cellCount, place}
 use Rattle.tree.specs.Cells.{cellAt, store, blank}
-use Rattle.tree.proofs.Places.{place-injective, root-place}
+use Rattle.tree.proofs.Places.{place-injective}
+use Rattle.tree.proofs.Cells.{root-cell}
 use Rattle.protocol.specs.declared.records.Record.{Record}
 use Rattle.protocol.specs.Nodes.{read, sent, due, frame}
 use Rattle.protocol.specs.Rounds.{boardWith, Board, fill, counted, receive}
@@ -288,12 +289,10 @@ module _ (r : Record) (g : Good r) (undecided : r .decided ≡ false) (cells : L
 
   -- Past round 1 hearing leaves the root alone.
   pub heard-root : (msg : ℕ → Option (List ℕ)) → 2 ≤ r .round .0 → getD (heardAll msg .cells) 0 blank ≡ getD cells 0 blank
-  unfolding cellAt
   heard-root msg later =
       let p = r .plan in
       let root = p .dealer ∷ [] in
-      let cell : (c : List ℕ) → getD c 0 blank ≡ cellAt (p .n) c root = λ c. ap (λ x. getD c x blank) (sym (root-place (p .n) (p .dealer))) in
-      cell (heardAll msg .cells)
+      sym (root-cell (p .n) (p .dealer) (heardAll msg .cells))
       ∙ heard-outside r g undecided msg cells room (p .n) (omega arith) 1 root (root-has (p .n) (p .dealer))
       (λ w. absurd (omega (arith, node-length p (r .board) (r .round .0) root w)))
-      ∙ sym (cell cells)
+      ∙ root-cell (p .n) (p .dealer) cells

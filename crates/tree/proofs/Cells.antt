@@ -1,16 +1,21 @@
--- Reading a cell after one was written.
+-- Which cell is the root's, and reading a cell after one was written.
 -- Assumes nothing.
 use Prim.Native.Nat.{ℕ, _≤_, _<_}
-use mathlib.Core.Path.{_≡_}
+use mathlib.Core.Path.{_≡_, ap}
 use mathlib.Core.Logic.{_≢_}
-use mathlib.Core.List.{List, List·Memᴰ}
+use mathlib.Core.List.{List, [], _∷_, List·Memᴰ}
 use native.Mathlib.Omega.{arith}
-use lib.ListN.{length, length-set}
+use lib.ListN.{length, getD, length-set}
 use lib.Seq.{getD-set-same, getD-set-other}
 use Rattle.tree.specs.Labels.{Label, labels}
 use Rattle.tree.specs.Places.{cellCount, place}
 use Rattle.tree.specs.Cells.{blank, cellAt, store}
-use Rattle.tree.proofs.Places.{place-lt, place-injective}
+use Rattle.tree.proofs.Places.{place-lt, root-place, place-injective}
+
+-- The root's cell is the first.
+pub root-cell : (n d : ℕ) (cells : List ℕ) → cellAt n cells (d ∷ []) ≡ getD cells 0 blank
+unfolding cellAt
+root-cell n d cells = ap (λ x. getD cells x blank) (root-place n d)
 
 pub store-length : (n : ℕ) (cells : List ℕ) (α : Label) (v : ℕ) → length (store n cells α v) ≡ length cells
 unfolding store

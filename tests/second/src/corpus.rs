@@ -21,3 +21,9 @@ pub fn load() -> Vec<(String, Vec<u8>)> {
     sheets.sort();
     sheets
 }
+
+/// The kept sheet of a name.
+pub fn kept(name: &str) -> Vec<u8> {
+    let found = load().into_iter().find(|(kept, _)| kept == name);
+    found.expect(name).1
+}

@@ -15,6 +15,7 @@ pub mod places;
 pub mod plan;
 pub mod prng;
 pub mod record;
+pub mod roots;
 pub mod script;
 pub mod scripts;
 pub mod search;

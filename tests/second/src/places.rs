@@ -1,7 +1,7 @@
 //! What printed places can show.
 
 use crate::line::Line;
-use crate::plan::{has, within};
+use crate::plan::within;
 use crate::session::Outcome;
 
 /// Kinds of accepted sheets, by name.
@@ -60,7 +60,7 @@ fn empty_later(outcome: &Outcome, line: &Line) -> bool {
 }
 
 fn beside_dealer(outcome: &Outcome) -> bool {
-    !has(outcome.faulty, outcome.plan.dealer) && any(outcome, above_0)
+    outcome.healthy_dealer() && any(outcome, above_0)
 }
 
 /// Two boards list somebody and have different places.

@@ -41,6 +41,8 @@ pub struct Outcome {
     pub lists: Vec<Vec<Set>>,
     /// All bytes that stand in frames of faulty boards.
     pub told: BTreeSet<u8>,
+    /// The values below m in those of the due length, for each run.
+    pub heard: Vec<BTreeSet<u8>>,
 }
 
 impl Outcome {
@@ -52,9 +54,13 @@ impl Outcome {
     pub fn default_shows(&self) -> bool {
         let default = self.plan.default;
         default != 0
-            && has(self.faulty, self.plan.dealer)
+            && !self.healthy_dealer()
             && !self.told.contains(&default)
             && self.lines.iter().any(|line| line.decision == default)
+    }
+
+    pub fn healthy_dealer(&self) -> bool {
+        !has(self.faulty, self.plan.dealer)
     }
 
     /// Whether the roots differ after a run, counted from 1.
@@ -71,7 +77,7 @@ impl Outcome {
             .iter()
             .filter(|line| line.board != self.plan.dealer);
         self.plan.cut()
-            && has(self.faulty, self.plan.dealer)
+            && !self.healthy_dealer()
             && self.faulty.count_ones() as usize >= run * (self.plan.depth as usize - 3) + 3
             && keepers.count() >= 2
     }
@@ -100,11 +106,16 @@ pub fn play(
     let keeping = healthy.iter().filter(|b| **b != plan.dealer);
     let mut keepers: Keepers = keeping.map(|b| (*b, Keeper::new(*b, mistake))).collect();
     let (mut roots, mut lists, mut told) = (vec![], vec![], BTreeSet::new());
+    let mut heard = vec![];
     for run in 1..=plan.runs() {
+        let mut heard_now = BTreeSet::new();
         for round in Plan::first_round(run)..=plan.rounds() {
-            let faulty_frames = exchange(&tree, value, faulty, run, round, &mut keepers, adversary);
-            told.extend(faulty_frames);
+            for frame in exchange(&tree, value, faulty, run, round, &mut keepers, adversary) {
+                heard_now.extend(frame.heard(plan.span));
+                told.extend(frame.values);
+            }
         }
+        heard.push(heard_now);
         keepers.values_mut().for_each(|k| k.convert(&tree, run));
         roots.push(
             keepers
@@ -137,6 +148,7 @@ pub fn play(
         roots,
         lists,
         told,
+        heard,
     }
 }
 
@@ -158,7 +170,22 @@ fn explained(
     }
 }
 
-/// One round: all frames are made, then stored, then every keeper closes. Gives the bytes of all faulty frames.
+/// A frame of a faulty board, and the values that are due.
+struct Told {
+    values: Vec<u8>,
+    due: usize,
+}
+
+impl Told {
+    /// The values below m, if it has the due length.
+    fn heard(&self, span: u8) -> Vec<u8> {
+        let fits = self.values.len() == self.due;
+        let values = self.values.iter().copied();
+        values.filter(|value| fits && *value < span).collect()
+    }
+}
+
+/// One round: all frames are made, then stored, then every keeper closes. Gives all faulty frames.
 fn exchange(
     tree: &Tree,
     value: u8,
@@ -167,9 +194,9 @@ fn exchange(
     round: usize,
     keepers: &mut Keepers,
     adversary: &mut dyn Adversary,
-) -> BTreeSet<u8> {
-    let mut frames: Vec<(Slot, Option<Vec<u8>>)> = vec![];
-    let mut told = BTreeSet::new();
+) -> Vec<Told> {
+    let mut frames: Vec<(Slot, usize, Option<Vec<u8>>)> = vec![];
+    let mut told = vec![];
     for sender in 0..tree.plan.n {
         let nodes = tree.reported(round, sender);
         for receiver in keepers.keys().copied() {
@@ -189,15 +216,15 @@ fn exchange(
             } else {
                 Some(keepers[&sender].frame(tree, round))
             };
-            frames.push((slot, frame));
+            frames.push((slot, nodes.len(), frame));
         }
     }
-    for (slot, frame) in frames {
+    for (slot, due, frame) in frames {
         let keeper = keepers.get_mut(&slot.receiver).unwrap();
         keeper.store(tree, round, slot.sender, frame.as_deref());
         adversary.stored(slot, frame.as_deref());
         if has(faulty, slot.sender) {
-            told.extend(frame.into_iter().flatten());
+            told.extend(frame.map(|values| Told { values, due }));
         }
     }
     keepers.values_mut().for_each(|k| k.close(tree, run, round));

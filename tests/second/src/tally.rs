@@ -1,6 +1,7 @@
 //! Counts of what the sheets reached.
 
-use crate::places::{all_placed, KINDS};
+use crate::places;
+use crate::roots;
 use crate::session::Outcome;
 use crate::sheet::Refusal;
 use std::collections::BTreeMap;
@@ -25,6 +26,9 @@ pub struct Tally {
     /// Accepted sheets that show each kind of place, and those with a list that has none.
     pub places: BTreeMap<&'static str, usize>,
     pub unplaced: usize,
+    /// Accepted sheets that try what roots between runs are worth, and those that break a claim of it.
+    pub roots: BTreeMap<&'static str, usize>,
+    pub broken: usize,
     refused: BTreeMap<u8, usize>,
     split: BTreeMap<(u8, u8, usize), usize>,
 }
@@ -42,10 +46,15 @@ impl Tally {
         self.accepted += 1;
         self.defaults += usize::from(outcome.plan.default != 0);
         self.shown += usize::from(outcome.default_shows());
-        self.unplaced += usize::from(!all_placed(outcome));
-        for (kind, _) in KINDS.iter().filter(|(_, shows)| shows(outcome)) {
+        self.unplaced += usize::from(!places::all_placed(outcome));
+        for (kind, _) in places::KINDS.iter().filter(|(_, shows)| shows(outcome)) {
             *self.places.entry(kind).or_default() += 1;
         }
+        for (kind, _) in roots::KINDS.iter().filter(|(_, shows)| shows(outcome)) {
+            *self.roots.entry(kind).or_default() += 1;
+        }
+        let holds = roots::CLAIMS.iter().all(|(_, holds)| holds(outcome));
+        self.broken += usize::from(!holds);
         if outcome.plan.sets.is_empty() {
             *self.no_sets.entry(outcome.plan.n).or_default() += 1;
         }
@@ -65,23 +74,31 @@ impl Tally {
         self.defaults += other.defaults;
         self.shown += other.shown;
         self.unplaced += other.unplaced;
+        self.broken += other.broken;
         join(&mut self.no_sets, other.no_sets);
         join(&mut self.places, other.places);
+        join(&mut self.roots, other.roots);
         join(&mut self.refused, other.refused);
         join(&mut self.split, other.split);
     }
 
-    /// Whether every number, every kind of unequal roots and of place, an accepted sheet with no sets and one that
-    /// decides a default other than 0 which nobody told were met, and no other number, no impossible roots and no list
-    /// without a place.
+    /// Whether every number, every kind of unequal roots, of place and of roots between runs, an accepted sheet with no
+    /// sets and one that decides a default other than 0 which nobody told were met, and no other number, no impossible
+    /// roots, no list without a place and no broken claim.
     pub fn full(&self) -> bool {
         self.refused.keys().eq(&NUMBERS)
             && SPLITS.iter().all(|s| self.split.contains_key(s))
-            && KINDS.iter().all(|(kind, _)| self.places.contains_key(kind))
+            && places::KINDS
+                .iter()
+                .all(|(kind, _)| self.places.contains_key(kind))
+            && roots::KINDS
+                .iter()
+                .all(|(kind, _)| self.roots.contains_key(kind))
             && !self.no_sets.is_empty()
             && self.shown > 0
             && self.impossible == 0
             && self.unplaced == 0
+            && self.broken == 0
     }
 
     pub fn print(&self) {
@@ -99,11 +116,16 @@ impl Tally {
             println!("unequal roots, b = {b}, n = {n}, after run {run}: {count}");
         }
         println!("unequal roots where none are possible: {}", self.impossible);
-        for (kind, _) in KINDS {
+        for (kind, _) in places::KINDS {
             let count = self.places.get(kind).copied().unwrap_or(0);
             println!("place {kind}: {count}");
         }
         println!("lists without a place: {}", self.unplaced);
+        for (kind, _) in roots::KINDS {
+            let count = self.roots.get(kind).copied().unwrap_or(0);
+            println!("roots {kind}: {count}");
+        }
+        println!("roots not worth what is claimed: {}", self.broken);
     }
 }
 

@@ -1,11 +1,10 @@
 //! The corpus shows what it is kept for, and made sheets keep the promises.
 
-use second::places::KINDS;
 use second::plan::{has, set_of, within};
 use second::sheet::Refusal;
 use second::shrink::shrink;
 use second::tally::{Tally, NUMBERS, SPLITS};
-use second::{bench, bench_with, corpus, make, play, print, session, sheet};
+use second::{bench, bench_with, corpus, make, places, play, print, roots, session, sheet};
 use second::{Line, Mistake, Outcome, Sheet};
 use std::collections::BTreeSet;
 
@@ -100,10 +99,19 @@ fn corpus_meets_all_but_the_longest() {
     assert!(!listed.full(), "no sets");
     let hidden = tally(&|_, result| !result.as_ref().is_ok_and(|o| o.default_shows()));
     assert!(!hidden.full(), "a default that shows");
-    for (kind, shows) in KINDS {
+    for (kind, shows) in places::KINDS {
         let some = tally(&|_, result| !result.as_ref().is_ok_and(shows));
         assert!(!some.full(), "a place {kind}");
     }
+    for (kind, shows) in roots::KINDS {
+        let some = tally(&|_, result| !result.as_ref().is_ok_and(shows));
+        assert!(!some.full(), "roots {kind}");
+    }
+    let mut changed = play(b"0410000000050000\n", None);
+    changed.as_mut().unwrap().roots[0][0] = 6;
+    let mut some = tally(&|_, _| true);
+    some.count(&changed);
+    assert!(!some.full(), "a healthy dealer's value is no root");
     let mut unplaced = play(b"0410000000050000\n", None);
     unplaced.as_mut().unwrap().lines[3].place = None;
     let mut some = tally(&|_, _| true);

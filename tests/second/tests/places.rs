@@ -23,12 +23,6 @@ const WRONG: [Mistake; 13] = [
     Mistake::DealerPlace,
 ];
 
-fn kept(name: &str) -> Vec<u8> {
-    let sheets = corpus::load();
-    let found = sheets.into_iter().find(|(kept, _)| kept == name);
-    found.expect(name).1
-}
-
 /// A sheet kept for a place tells these mistakes about places, and no other.
 #[test]
 fn corpus_tells_wrong_places() {
@@ -89,7 +83,7 @@ fn corpus_tells_wrong_places() {
         ),
     ];
     for (name, expected) in told {
-        let mut told = Mistake::told_by(&kept(name));
+        let mut told = Mistake::told_by(&corpus::kept(name));
         told.retain(|m| WRONG.contains(m));
         assert_eq!(told, expected, "{name}");
     }

@@ -62,13 +62,16 @@ fn compare_all(path: &str, sheets: impl Iterator<Item = Named>) -> (Tally, usize
     let (mut tally, mut differences) = (Tally::default(), 0);
     for (name, sheet) in sheets {
         let result = play(&sheet, None);
-        let before = (tally.impossible, tally.unplaced);
+        let before = (tally.impossible, tally.unplaced, tally.broken);
         tally.count(&result);
         if tally.impossible > before.0 {
             println!("unequal roots where none are possible: {name}");
         }
         if tally.unplaced > before.1 {
             println!("a list without a place: {name}");
+        }
+        if tally.broken > before.2 {
+            println!("roots not worth what is claimed: {name}");
         }
         let (ours, other) = (print(&result), with_set_00(&sheet));
         for text in iter::once(&sheet).chain(&other) {
