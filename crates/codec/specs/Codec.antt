@@ -1,24 +1,51 @@
--- How frames and sheets write values. 01: "one byte a value".
-use Prim.Native.Nat.{ℕ, suc, _*_}
+-- How wide values are, how frames and sheets write them, and the mark of a cell that holds none.
+use Prim.Native.Nat.{ℕ, suc, _+_, _*_, _/_, _%_}
+use mathlib.Core.Bool.{cond}
 use mathlib.Core.List.{List, [], _∷_, _++_}
-use lib.ListN.{getD, take, drop}
+use lib.Dec.{eqb}
+use lib.ListN.{length, getD, take, drop}
+
+-- A value has one byte, or two.
+pub data Width : Type 0 where
+  one : Width
+  two : Width
+
+-- The width of the code's values. 01: "one byte a value".
+abbrev pub current : Width
+current = one
 
 -- The bytes of a value.
-abbrev pub width : ℕ
-width = 1
+abbrev pub valueSize : Width → ℕ
+valueSize one = 1
+valueSize two = 2
 
--- The bytes of values.
-unfoldable pub encode : List ℕ → List ℕ
-encode vs = vs
+-- 01: "A place with no value yet, or no node, holds FF"; in two bytes it holds FFFF.
+unfoldable pub blank : Width → ℕ
+blank one = 0xFF
+blank two = 0xFFFF
 
--- The values of bytes.
-unfoldable pub decode : List ℕ → List ℕ
-decode f = f
+-- The bytes of values, the high byte first.
+unfoldable pub encode : Width → List ℕ → List ℕ
+encode one vs = vs
+encode two [] = []
+encode two (v ∷ vs) = (v / 256) ∷ ((v % 256) ∷ encode two vs)
+
+-- Bytes two by two, as numbers.
+unfoldable pub pairs : List ℕ → List ℕ
+pairs [] = []
+pairs (h ∷ []) = []
+pairs (h ∷ (l ∷ f)) = (h * 256 + l) ∷ pairs f
+
+-- The values of bytes. An odd count of bytes writes no values of two bytes.
+unfoldable pub decode : Width → List ℕ → List ℕ
+decode one f = f
+decode two f = cond (eqb (length f % 2) 0) (pairs f) []
 
 -- The number that stands at place i of the bytes of a head.
-unfoldable pub numberAt : List ℕ → ℕ → ℕ
-numberAt bytes i = getD bytes i 0
+unfoldable pub numberAt : Width → List ℕ → ℕ → ℕ
+numberAt one bytes i = getD bytes i 0
+numberAt two bytes i = getD bytes i 0 * 256 + getD bytes (suc i) 0
 
 -- The bytes with v as value number i. A middle layer: one step of `encode`.
-unfoldable pub written : ℕ → ℕ → List ℕ → List ℕ
-written i v out = take (width * i) out ++ (encode (v ∷ []) ++ drop (width * suc i) out)
+unfoldable pub written : Width → ℕ → ℕ → List ℕ → List ℕ
+written w i v out = take (valueSize w * i) out ++ (encode w (v ∷ []) ++ drop (valueSize w * suc i) out)

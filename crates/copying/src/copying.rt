@@ -1,6 +1,6 @@
 // Closing a round after the first: the board's own cells.
 use codec::value::Value;
-use codec::value::WIDTH;
+use codec::value::VALUE_SIZE;
 use frames::writing::write_at;
 use plan::plan::Plan;
 use protocol::limits::VALUES;
@@ -18,9 +18,9 @@ pub fn copy_own(plan: Plan, holders: &[u8], board: u8, round: Round, cells: &mut
 {
     let level = round.0 - 1;
     let mut nodes = [0u32; VALUES];
-    let mut own = [0u8; WIDTH * VALUES];
+    let mut own = [0u8; VALUE_SIZE * VALUES];
     let count = carried_nodes(plan, holders, board, board, level, &mut nodes);
     write_at(plan, level, &nodes[0..count], cells, &mut own);
-    let length = WIDTH * count;
+    let length = VALUE_SIZE * count;
     store_at(plan, level, board, &nodes[0..count], &own[0..length], cells);
 }

@@ -1,6 +1,7 @@
 // Plans, and the call that makes one.
 use admission::limits::BOARDS;
 use admission::limits::SETS;
+use codec::value::BLANK;
 use codec::value::Value;
 use refusals::refusal::Refusal;
 use refusals::refusal::Verdict;
@@ -38,7 +39,7 @@ impl Plan {
     // The most sets.
     pub const SETS: usize = SETS;
     // A cell without a value; no value is it, since values are below a span of at most this.
-    pub const BLANK: Value = 255;
+    pub const BLANK: Value = BLANK;
 
     // Planning: 1 to 7, 26, 8, in order.
     pub fn new(n: u8, sets: &[u8], settings: Settings) -> Planned

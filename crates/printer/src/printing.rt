@@ -1,6 +1,6 @@
 // The lines of the boards, in uppercase hexadecimal.
 use codec::value::Value;
-use codec::value::WIDTH;
+use codec::value::VALUE_SIZE;
 use digits::writing::print_byte;
 use listing::listing::as_set;
 use protocol::limits::LINE;
@@ -30,7 +30,7 @@ fn print_value(out: &mut [u8], at: usize, v: Value)
 // Where a line's decision stands, its list, its place, and its newline.
 const DECISION: usize = 2;
 
-const LIST: usize = DECISION + 2 * WIDTH;
+const LIST: usize = DECISION + 2 * VALUE_SIZE;
 
 const PLACE: usize = LIST + 2;
 

@@ -1,7 +1,7 @@
--- A frame has at most 120 values: a longer part of a frame is never read, and room for 121 values is enough to write every frame.
+-- A frame has at most 120 values: more bytes than these and one are never read, and room for as many is enough to write every frame.
 -- Assumes nothing.
 use Prim.Native.Nat.{ℕ, zero, suc, _-_, _*_, _≤_, _<_}
-use mathlib.Core.Path.{_≡_, refl, _∙_, ap, subst}
+use mathlib.Core.Path.{_≡_, refl, sym, _∙_, ap, subst}
 use mathlib.Core.Logic.{_≢_, ⊎-elim}
 use mathlib.Core.Bool.{Bool, true, false, not, _&&_, cond}
 use mathlib.Core.List.{List, [], _∷_, _++_, List·Memᴰ, List·Memᴰ·head, List·Memᴰ·tail, List·Memᴰ·cases-cons, List·Memᴰ·not-nil}
@@ -11,8 +11,8 @@ use lib.Dec.{eqb, leb}
 use lib.ListN.{length, take, length-append, length-map}
 use lib.Seq.{take-all, length-take-le}
 use borrow.Author.Tests.{eq-eqb, ne-eqb, leb-true, leb-false, le-ltb}
-use Rattle.codec.specs.Codec.{width, decode}
-use Rattle.codec.proofs.Codec.{length-encode}
+use Rattle.codec.specs.Codec.{Width, one, two, valueSize, decode}
+use Rattle.codec.proofs.Codec.{length-encode, decode-past}
 use Rattle.sets.specs.Search.{any}
 use Rattle.sets.specs.Sets.{member}
 use Rattle.sets.proofs.Tests.{cases, or-right}
@@ -29,7 +29,7 @@ use Rattle.tree.proofs.Children.{child-get, ordinal-size}
 use Rattle.tree.proofs.Sizes.{size-suc, size-bound}
 use Rattle.tree.proofs.Ranks.{label-width}
 use Rattle.protocol.specs.Limits.{frameMost, frameRoom}
-use Rattle.protocol.specs.declared.records.Record.{Record}
+use Rattle.protocol.specs.declared.records.Slot.{Slot}
 use Rattle.protocol.specs.Listing.{asSet}
 use Rattle.protocol.specs.Nodes.{filter, internal, nodes, inner, carried, sent, due, frame}
 use Rattle.protocol.specs.Rounds.{Board, counted, receive}
@@ -149,29 +149,52 @@ few p e q i k lq =
     (λ x. cases (eqb q (p .dealer)) (λ y. rw (x, y) (omega arith)) (λ y. rw (x, y) (omega arith)))
     (λ x. rw x (carried-few p q i (k .0 - 1) (f .dealer-below) (f .admission .most-boards) lq))
 
--- Of a frame only its first 121 values are read: past 120 its length is wrong.
-counted-few : (r : Record) (q : ℕ) (αs : List Label) (f : List ℕ) → length αs ≤ frameMost → counted (r .list) q αs (take frameRoom f) ≡ counted (r .list) q αs f
-unfolding counted
-counted-few r q αs f l =
-    cases (leb (length f) frameRoom)
-    (λ e. ap (λ x. cond (eqb (length x) (length αs) && not (member q (asSet (r .list)))) x []) (take-all frameRoom f (leb-true (length f) frameRoom e)))
-    (λ e. let high : frameRoom < length f = leb-false (length f) frameRoom e in
-    let cut : length (take frameRoom f) ≡ frameRoom = length-take-le frameRoom f (omega arith) in
-    rw (ne-eqb (length (take frameRoom f)) (length αs) (omega arith), ne-eqb (length f) (length αs) (omega arith)))
+-- Room for a frame is more than the bytes of 120 values.
+room-past : (w : Width) → valueSize w * frameMost < frameRoom w
+room-past one = omega arith
+room-past two = omega arith
 
-pub overlong : (b : Board) (q : ℕ) (f : List ℕ) → receiving b q (take frameRoom f) ≡ receiving b q f
-unfolding receiving taking receive decode
+-- A frame with bytes for more than 120 values counts for nothing.
+counted-past : (w : Width) (list : List Slot) (q : ℕ) (αs : List Label) (f : List ℕ) → length αs ≤ frameMost → valueSize w * frameMost < length f
+    → counted list q αs (decode w f) ≡ []
+unfolding counted
+counted-past w list q αs f most l =
+    ⊎-elim (λ e. rw e (nothing (eqb 0 (length αs) && not (member q (asSet list))))) (λ h. rw (ne-eqb (length (decode w f)) (length αs) (omega arith)) refl)
+    (decode-past w frameMost f l)
+  where
+    nothing : (b : Bool) → cond {A = List ℕ} b [] [] ≡ []
+    nothing true = refl
+    nothing false = refl
+
+-- Of a frame only as many bytes are read as there is room for: past 120 values its length is wrong.
+counted-few : (w : Width) (list : List Slot) (q : ℕ) (αs : List Label) (f : List ℕ) → length αs ≤ frameMost
+    → counted list q αs (decode w (take (frameRoom w) f)) ≡ counted list q αs (decode w f)
+counted-few w list q αs f most =
+    cases (leb (length f) (frameRoom w))
+    (λ e. ap (λ x. counted list q αs (decode w x)) (take-all (frameRoom w) f (leb-true (length f) (frameRoom w) e)))
+    (λ e. let high : frameRoom w < length f = leb-false (length f) (frameRoom w) e in
+    let cut : length (take (frameRoom w) f) ≡ frameRoom w = length-take-le (frameRoom w) f (omega arith) in
+    counted-past w list q αs (take (frameRoom w) f) most (subst (λ k. valueSize w * frameMost < k) (sym cut) (room-past w))
+    ∙ sym (counted-past w list q αs f most (let z = room-past w in omega arith)))
+
+pub overlong : (b : Board) (q : ℕ) (f : List ℕ) → receiving b q (take (frameRoom (b .width)) f) ≡ receiving b q f
+unfolding receiving taking receive
 overlong b q f =
     let r = b .rec in
     let αs = sent (r .plan) q (r .board) (r .round) in
     cases (isTaken (judgeReceiving b q))
     (λ e. let (o, d, _) = receiving-facts b q (is-taken (judgeReceiving b q) e) in
     let most = few (r .plan) (o .good .plan-good) q (r .board) (r .round) (due-sender (r .plan) q (r .board) (r .round) d) in
-    rw (counted-few r q αs f most))
+    rw (counted-few (b .width) (r .list) q αs f most))
     (λ e. rw e)
 
--- A board that is open and has a frame due to some board writes it where there is room for 121 values.
-pub sends : (b : Board) (out : List ℕ) → Open b → frameRoom ≤ length out → any (λ i. due (b .rec .plan) (b .rec .board) i (b .rec .round)) (b .rec .plan .n) ≡ true
+-- The bytes of at most 120 values have room.
+room-for : (w : Width) (k : ℕ) → k ≤ frameMost → valueSize w * k ≤ frameRoom w
+room-for one k l = omega arith
+room-for two k l = omega arith
+
+-- A board that is open and has a frame due to some board writes it where there is room for a frame.
+pub sends : (b : Board) (out : List ℕ) → Open b → frameRoom (b .width) ≤ length out → any (λ i. due (b .rec .plan) (b .rec .board) i (b .rec .round)) (b .rec .plan .n) ≡ true
     → sending b out .answer ≡ taken (length (wireOf b) ∷ [])
 unfolding sending judgeSending
 sends b out o room d =
@@ -179,11 +202,12 @@ sends b out o room d =
     let size : length (frameOf b) ≡ length (sent (r .plan) (r .board) (r .board) (r .round)) =
     unfold frameOf frame in length-map (sent (r .plan) (r .board) (r .board) (r .round)) _ in
     let most = few (r .plan) (o .good .plan-good) (r .board) (r .board) (r .round) (o .good .below) in
-    let bytes : length (wireOf b) ≡ width * length (frameOf b) = unfold wireOf in length-encode (frameOf b) in
+    let bytes : length (wireOf b) ≡ valueSize (b .width) * length (frameOf b) = unfold wireOf in length-encode (b .width) (frameOf b) in
+    let fits = room-for (b .width) (length (frameOf b)) (omega arith) in
     taken-first (judgeOpen b) _ (ap (λ x. x .number) (open-taken b o)) ∙ rw (d, le-ltb (length out) (length (wireOf b)) (omega arith)) refl
 
 -- Where it writes none, nothing that is handed in under its number is taken in that round.
-pub unsent : (b c : Board) (out f : List ℕ) → Open b → frameRoom ≤ length out → c .rec .plan ≡ b .rec .plan → c .rec .round ≡ b .rec .round
+pub unsent : (b c : Board) (out f : List ℕ) → Open b → frameRoom (b .width) ≤ length out → c .rec .plan ≡ b .rec .plan → c .rec .round ≡ b .rec .round
     → sending b out .answer .number ≢ 0 → receiving c (b .rec .board) f .board ≡ c
 unsent b c out f o room ep er silent =
     let q = b .rec .board in
@@ -193,4 +217,4 @@ unsent b c out f o room ep er silent =
     subst (λ k. due (b .rec .plan) q (c .rec .board) k ≡ true) er (subst (λ p. due p q (c .rec .board) (c .rec .round) ≡ true) ep d) in
     let below : c .rec .board < b .rec .plan .n = subst (λ (p : Plan). c .rec .board < p .n) ep (oc .good .below) in
     absurd (silent (ap (λ x. x .number) (sends b out o room (any-of (λ i. due (b .rec .plan) q i (b .rec .round)) (b .rec .plan .n) (c .rec .board) below d′)))))
-    (λ e. unfold receiving in taking-refused c q (decode f) e)
+    (λ e. unfold receiving in taking-refused c q (decode (c .width) f) e)

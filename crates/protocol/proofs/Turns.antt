@@ -8,6 +8,7 @@ use mathlib.Core.List.{List, []}
 use native.Mathlib.Omega.{arith}
 use lib.Dec.{eqb}
 use lib.ListN.{length, getD, length-append, length-drop, List·getD-append, length-replicate, getD-replicate, replicate, drop}
+use Rattle.codec.specs.Codec.{Width, blank}
 use Rattle.sets.specs.Sets.{member}
 use Rattle.sets.proofs.Tests.{cases}
 use Rattle.plan.specs.declared.plan.Plan.{Plan}
@@ -15,7 +16,6 @@ use Rattle.schedule.specs.Schedule.{runs, rounds}
 use Rattle.schedule.specs.declared.rounds.Round.{Round}
 use Rattle.tree.specs.Labels.{Label}
 use Rattle.tree.specs.Places.{cellCount}
-use Rattle.tree.specs.Cells.{blank}
 use Rattle.protocol.specs.declared.records.Slot.{Slot}
 use Rattle.protocol.specs.declared.records.Record.{Record}
 use Rattle.protocol.specs.Nodes.{sent, due, frame}
@@ -25,18 +25,18 @@ use Rattle.protocol.specs.Rounds.{Board, fill, counted, receive, fillMis
 use Rattle.protocol.specs.Listing.{asSet}
 
 -- 01: "A place with no value yet, or no node, holds FF".
-pub begun-blank : (n : ℕ) (cells : List ℕ) (x : ℕ) → x < cellCount n → getD (cleared n cells) x blank ≡ blank
-begun-blank n cells x l =
-    List·getD-append (replicate (cellCount n) blank) (drop (cellCount n) cells) blank x (omega (arith, length-replicate (cellCount n) blank))
-    ∙ getD-replicate (cellCount n) x blank blank l
+pub begun-blank : (w : Width) (n : ℕ) (cells : List ℕ) (x : ℕ) → x < cellCount n → getD (cleared w n cells) x 0 ≡ blank w
+begun-blank w n cells x l =
+    List·getD-append (replicate (cellCount n) (blank w)) (drop (cellCount n) cells) 0 x (omega (arith, length-replicate (cellCount n) (blank w)))
+    ∙ getD-replicate (cellCount n) x (blank w) 0 l
 
 -- A beginning keeps the number of cells.
-pub begun-length : (n : ℕ) (cells : List ℕ) → cellCount n ≤ length cells → length (cleared n cells) ≡ length cells
-begun-length n cells h =
+pub begun-length : (w : Width) (n : ℕ) (cells : List ℕ) → cellCount n ≤ length cells → length (cleared w n cells) ≡ length cells
+begun-length w n cells h =
     omega (
       arith,
-      length-append (replicate (cellCount n) blank) (drop (cellCount n) cells),
-      length-replicate (cellCount n) blank,
+      length-append (replicate (cellCount n) (blank w)) (drop (cellCount n) cells),
+      length-replicate (cellCount n) (blank w),
       length-drop (cellCount n) cells,
     )
 

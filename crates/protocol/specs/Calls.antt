@@ -4,7 +4,7 @@ use mathlib.Core.Bool.{Bool, true, false, not, _&&_, _||_, cond}
 use mathlib.Core.List.{List, [], _∷_, _++_}
 use lib.Dec.{eqb, leb, ltb}
 use lib.ListN.{length, drop}
-use Rattle.codec.specs.Codec.{encode, decode}
+use Rattle.codec.specs.Codec.{Width, encode, decode}
 use Rattle.sets.specs.Search.{any}
 use Rattle.sets.specs.Sets.{member, within, boards}
 use Rattle.plan.specs.declared.plan.Plan.{Plan}
@@ -18,7 +18,7 @@ use Rattle.protocol.specs.declared.records.Record.{Record}
 use Rattle.protocol.specs.Listing.{noEntries, entryAt, levelOf, asSet}
 use Rattle.protocol.specs.Records.{standingAt}
 use Rattle.protocol.specs.Nodes.{due, frame}
-use Rattle.protocol.specs.Rounds.{boardWith, Board, receive, cleared, close}
+use Rattle.protocol.specs.Rounds.{boardOf, Board, receive, cleared, close}
 
 -- What a call on a board leaves: the answer, and the board.
 pub record Result : Type 0 where
@@ -111,16 +111,16 @@ voidRecord = record {
 unfoldable pub judgeBeginning : Plan → ℕ → List ℕ → Outcome
 judgeBeginning p i cells = andThen (judged p) (andThen (judgeBoard p i) (judgeCells p cells))
 
-unfoldable pub beginning : Plan → ℕ → List ℕ → Result
-beginning p i cells =
+unfoldable pub beginning : Width → Plan → ℕ → List ℕ → Result
+beginning w p i cells =
     let answer = judgeBeginning p i cells in
-    let begun : Board = boardWith (freshRecord p i) (cleared (p .n) cells) in
-    let kept : Board = boardWith voidRecord cells in
+    let begun : Board = boardOf w (freshRecord p i) (cleared w (p .n) cells) in
+    let kept : Board = boardOf w voidRecord cells in
     record { answer = answer; board = cond (isTaken answer) begun kept }
 
 -- 01, 'Dealer's frame': 1 to 7, 26 (02 b), 8, then 18. The frame has one value.
-unfoldable pub dealing : Plan → ℕ → Outcome
-dealing p v = andThen (judged p) (cond (leb (p .span) v) (refused 18) (taken (encode (v ∷ []))))
+unfoldable pub dealing : Width → Plan → ℕ → Outcome
+dealing w p v = andThen (judged p) (cond (leb (p .span) v) (refused 18) (taken (encode w (v ∷ []))))
 
 -- 01, 'Handing in': 12, 11, 13, 14, 15.
 unfoldable pub judgeReceiving : Board → ℕ → Outcome
@@ -138,14 +138,14 @@ taking b q vs =
 
 -- Its bytes.
 unfoldable pub receiving : Board → ℕ → List ℕ → Result
-receiving b q f = taking b q (decode f)
+receiving b q f = taking b q (decode (b .width) f)
 
 -- The frame that a board sends in its round: its values, and its bytes.
 unfoldable pub frameOf : Board → List ℕ
 frameOf b = let r = b .rec in frame (r .plan) (r .board) (r .board) (r .round) (b .cells)
 
 unfoldable pub wireOf : Board → List ℕ
-wireOf b = encode (frameOf b)
+wireOf b = encode (b .width) (frameOf b)
 
 -- 01, 'Writing a frame': 12, 11, 13, then 16, 17. Output past what is written is not touched.
 unfoldable pub judgeSending : Board → List ℕ → Outcome

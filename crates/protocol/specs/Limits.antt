@@ -1,18 +1,18 @@
--- The limits of sheets and frames.
+-- The limits of sheets and frames, by the width of a value where they depend on it.
 use Prim.Native.Nat.{ℕ, _+_, _*_}
-use Rattle.codec.specs.Codec.{width}
+use Rattle.codec.specs.Codec.{Width, valueSize}
 
 -- 01: "20: above 65,536 bytes."
 abbrev pub sheetMost : ℕ
 sheetMost = 65536
 
 -- The characters of a printed line: board, decision, list, place, two digits a byte, and a newline.
-abbrev pub lineLength : ℕ
-lineLength = 2 + 2 * width + 2 + 2 + 1
+abbrev pub lineLength : Width → ℕ
+lineLength w = 2 + 2 * valueSize w + 2 + 2 + 1
 
 -- 02 c: "the output needs 63 bytes": a line for each of seven boards.
-abbrev pub outputNeeded : ℕ
-outputNeeded = 7 * lineLength
+abbrev pub outputNeeded : Width → ℕ
+outputNeeded w = 7 * lineLength w
 
 -- The cells of a board in a plan of seven.
 abbrev pub partMost : ℕ
@@ -26,5 +26,5 @@ cellsNeeded = 7 * partMost
 abbrev pub frameMost : ℕ
 frameMost = 120
 
-abbrev pub frameRoom : ℕ
-frameRoom = frameMost * width + 1
+abbrev pub frameRoom : Width → ℕ
+frameRoom w = frameMost * valueSize w + 1

@@ -4,13 +4,14 @@ use mathlib.Core.Bool.{not, _&&_, cond}
 use mathlib.Core.List.{List, [], _∷_, _++_}
 use lib.Dec.{eqb, ltb}
 use lib.ListN.{length, drop, replicate}
+use Rattle.codec.specs.Codec.{Width, current, blank}
 use Rattle.sets.specs.Sets.{member}
 use Rattle.plan.specs.declared.plan.Plan.{Plan}
 use Rattle.schedule.specs.declared.rounds.Round.{Round}
 use Rattle.schedule.specs.Schedule.{rounds}
 use Rattle.tree.specs.Labels.{Label}
 use Rattle.tree.specs.Places.{cellCount}
-use Rattle.tree.specs.Cells.{blank, store}
+use Rattle.tree.specs.Cells.{store}
 use Rattle.protocol.specs.declared.records.Slot.{Slot}
 use Rattle.protocol.specs.declared.records.Record.{Record}
 use Rattle.plan.specs.Values.{default, value}
@@ -19,17 +20,21 @@ use Rattle.protocol.specs.Records.{marked, advanced, runEnded}
 use Rattle.protocol.specs.Nodes.{inner, sent, due, frame}
 use Rattle.protocol.specs.Detection.{Scan, detectAllG, resolveRoot, detectLevels}
 
--- A board: its record and its cells.
+-- A board: how wide its values are, its record and its cells.
 pub record Board : Type 0 where
+  pub width : Width
   pub rec : Record
   pub cells : List ℕ
 
--- The board with a record and cells, and a board with another record and other cells.
+-- The board of a width with a record and cells; the code's boards, which have its width; a board with another record and other cells.
+abbrev pub boardOf : Width → Record → List ℕ → Board
+boardOf w r cells = record { width = w; rec = r; cells = cells }
+
 abbrev pub boardWith : Record → List ℕ → Board
-boardWith r cells = record { rec = r; cells = cells }
+boardWith r cells = boardOf current r cells
 
 abbrev pub onto : Board → Record → List ℕ → Board
-onto b r cells = boardWith r cells
+onto b r cells = boardOf (b .width) r cells
 
 -- 01: "the receiver stores each at that node's child q"; where values are lacking, the default.
 unfoldable pub fill : Plan → ℕ → List Label → List ℕ → List ℕ → List ℕ
@@ -72,12 +77,12 @@ gather b =
     (record { list = r .list; cells = copyOwn p i k (fillMissing p i k (r .marks) (p .n) (b .cells)) })
 
 -- 01: "The resolved root becomes the root cell, all other cells FF". Surplus cells stay.
-unfoldable pub rootOnly : ℕ → ℕ → List ℕ → List ℕ
-rootOnly n root cells = (root ∷ replicate (cellCount n - 1) blank) ++ drop (cellCount n) cells
+unfoldable pub rootOnly : Width → ℕ → ℕ → List ℕ → List ℕ
+rootOnly w n root cells = (root ∷ replicate (cellCount n - 1) (blank w)) ++ drop (cellCount n) cells
 
 -- The cells of a board that begins. 01: "A place with no value yet, or no node, holds FF". Surplus cells stay.
-abbrev pub cleared : ℕ → List ℕ → List ℕ
-cleared n cells = replicate (cellCount n) blank ++ drop (cellCount n) cells
+abbrev pub cleared : Width → ℕ → List ℕ → List ℕ
+cleared w n cells = replicate (cellCount n) (blank w) ++ drop (cellCount n) cells
 
 -- The next round of the same run.
 unfoldable pub nextRound : Board → Scan → Board
@@ -90,7 +95,7 @@ convert b s =
     let p = r .plan in
     let root = resolveRoot p (r .board) (s .cells) in
     let list = detectLevels p (r .board) (r .run) (r .round) (s .cells) (rounds p .0 - 1) (s .list) in
-    onto b (runEnded r list root) (rootOnly (p .n) root (s .cells))
+    onto b (runEnded r list root) (rootOnly (b .width) (p .n) root (s .cells))
 
 -- A round is closed. 01: "Then comes round 2 of the next run, or the decision"; before round R the next round.
 unfoldable pub close : Board → Board

@@ -7,6 +7,7 @@ use mathlib.Core.Option.{Option, some, none}
 use mathlib.Core.Path.{_≡_}
 use lib.Dec.{eqb, ltb}
 use lib.ListN.{getD, length}
+use Rattle.codec.specs.Codec.{Width}
 use Rattle.sets.specs.Sets.{member}
 use Rattle.sets.specs.Structure.{tolerated}
 use Rattle.sets.specs.Tabulate.{tabulate}
@@ -21,8 +22,9 @@ use Rattle.protocol.specs.Calls.{voidRecord, beginning, taking, frameOf,
 abbrev pub Adversary : Type 0
 Adversary = ℕ → ℕ → ℕ → Option (List ℕ)
 
--- What a session is played on: the plan, the faulty boards, the dealer's value, and each board's lent cells.
+-- What a session is played on: how wide values are, the plan, the faulty boards, the dealer's value, and each board's lent cells.
 pub record Setting : Type 0 where
+  pub width : Width
   pub plan : Plan
   pub faulty : ℕ
   pub word : ℕ
@@ -40,7 +42,7 @@ boardAt w i = getD w i nobody
 
 -- Board i as its beginning leaves it. 01: "has its own record and cells, as its beginning on that plan left them".
 unfoldable pub begun : Setting → ℕ → Board
-begun s i = beginning (s .plan) i (s .buffer i) .board
+begun s i = beginning (s .width) (s .plan) i (s .buffer i) .board
 
 -- What board i hears from board q in step j, when all boards stand at w. 01: "Under a number in F any bytes may be handed in, or nothing";
 -- the dealer and the others send as 01 says.

@@ -1,6 +1,6 @@
 // Later rounds: a frame is the nodes that it carries, found by one walk of the level.
 use codec::value::Value;
-use codec::value::WIDTH;
+use codec::value::VALUE_SIZE;
 use frames::writing::write_at;
 use plan::plan::Plan;
 use protocol::answers::Sent;
@@ -40,7 +40,7 @@ pub fn write_later(
     let level = round.0 - 1;
     let mut nodes = [0u32; VALUES];
     let count = carried_nodes(plan, holders, board, board, level, &mut nodes);
-    let length = WIDTH * count;
+    let length = VALUE_SIZE * count;
     let idle = is_idle(plan.n, count);
     if idle {
         return Sent::Refused(Refusal::NothingToSend);

@@ -1,16 +1,16 @@
 // The head of a sheet, and where its parts stand, in bytes; n stands first. Their definitions stand in specs/Sheet.
 use codec::value::Value;
-use codec::value::WIDTH;
+use codec::value::VALUE_SIZE;
 use plan::plan::Plan;
 
 // The span, m.
 pub const SPAN: usize = 1;
 
 // The default.
-pub const DEFAULT: usize = SPAN + WIDTH;
+pub const DEFAULT: usize = SPAN + VALUE_SIZE;
 
 // The dealer, d.
-pub const DEALER: usize = DEFAULT + WIDTH;
+pub const DEALER: usize = DEFAULT + VALUE_SIZE;
 
 // The depth, b.
 pub const DEPTH: usize = DEALER + 1;
@@ -19,7 +19,7 @@ pub const DEPTH: usize = DEALER + 1;
 pub const WORD: usize = DEPTH + 1;
 
 // The number of sets, s.
-pub const COUNT: usize = WORD + WIDTH;
+pub const COUNT: usize = WORD + VALUE_SIZE;
 
 // The first of the s sets; the faulty boards, F, stand behind them.
 pub const SETS: usize = COUNT + 1;

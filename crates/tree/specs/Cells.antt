@@ -5,13 +5,9 @@ use lib.ListN.{getD, set}
 use Rattle.tree.specs.Labels.{Label}
 use Rattle.tree.specs.Places.{place}
 
--- 01: "A place with no value yet, or no node, holds FF".
-unfoldable pub blank : ℕ
-blank = 255
-
--- The cell of a label.
+-- The cell of a label; 0 past the end.
 unfoldable pub cellAt : ℕ → List ℕ → Label → ℕ
-cellAt n cells α = getD cells (place n α) blank
+cellAt n cells α = getD cells (place n α) 0
 
 -- The cells with v at a label.
 unfoldable pub store : ℕ → List ℕ → Label → ℕ → List ℕ
