@@ -12,6 +12,7 @@ use lib.Dec.{eqb, leb, ltb}
 use lib.ListN.{length, drop, replicate, length-drop}
 use lib.Seq.{take-append-seam, length-take-le}
 use borrow.Author.Tests.{eqb-true, eqb-false, eq-eqb, ne-eqb, leb-false, ltb-true}
+use Rattle.codec.specs.Codec.{Width}
 use Rattle.sets.specs.Sets.{within, boards}
 use Rattle.sets.specs.Structure.{tolerated}
 use Rattle.sets.proofs.Tests.{cases, and-l, and-r, or-r, not-f}
@@ -38,30 +39,30 @@ pub record GoodHead (h : Head) : Type 0 where
   pub faulty-tolerated : tolerated (listed (h .plan)) (h .faulty) ≡ true
 
 -- A head of its length has as many sets as it says.
-pub sets-size : (bytes : List ℕ) → length bytes ≡ headLength (headCount bytes) → length (headSets bytes) ≡ headCount bytes
-sets-size bytes e = length-take-le (headCount bytes) (drop setsPlace bytes) (omega (arith, length-drop setsPlace bytes))
+pub sets-size : (w : Width) (bytes : List ℕ) → length bytes ≡ headLength w (headCount w bytes) → length (headSets w bytes) ≡ headCount w bytes
+sets-size w bytes e = length-take-le (headCount w bytes) (drop (setsPlace w) bytes) (omega (arith, length-drop (setsPlace w) bytes))
 
 -- The plan that an accepted head names.
-module _ (bytes : List ℕ) (ok : planning (headBoards bytes) (length (headSets bytes)) (headSets bytes) (headSettings bytes) .number ≡ 0) where
-  plan-on : headOf bytes .plan ≡ planOn (headBoards bytes) (headSets bytes) (headSettings bytes)
+module _ (w : Width) (bytes : List ℕ) (ok : planning (headBoards bytes) (length (headSets w bytes)) (headSets w bytes) (headSettings w bytes) .number ≡ 0) where
+  plan-on : headOf w bytes .plan ≡ planOn (headBoards bytes) (headSets w bytes) (headSettings w bytes)
   unfolding headOf
-  plan-on = planned-taken (headBoards bytes) (headSets bytes) (headSettings bytes) ok
+  plan-on = planned-taken (headBoards bytes) (headSets w bytes) (headSettings w bytes) ok
 
-  plan-n : headOf bytes .plan .n ≡ headBoards bytes
+  plan-n : headOf w bytes .plan .n ≡ headBoards bytes
   unfolding planOn
   plan-n = ap (λ (p : Plan). p .n) plan-on
 
-  plan-span : headOf bytes .plan .span ≡ headSettings bytes .span
+  plan-span : headOf w bytes .plan .span ≡ headSettings w bytes .span
   unfolding planOn
   plan-span = ap (λ (p : Plan). p .span) plan-on
 
-  plan-listed : listed (headOf bytes .plan) ≡ headSets bytes
+  plan-listed : listed (headOf w bytes .plan) ≡ headSets w bytes
   unfolding planOn listed
-  plan-listed = ap listed plan-on ∙ take-append-seam (headSets bytes) (replicate (32 - length (headSets bytes)) 0)
+  plan-listed = ap listed plan-on ∙ take-append-seam (headSets w bytes) (replicate (32 - length (headSets w bytes)) 0)
 
-  plan-judged : judged (headOf bytes .plan) .number ≡ 0
+  plan-judged : judged (headOf w bytes .plan) .number ≡ 0
   unfolding headOf
-  plan-judged = ap (λ (o : Outcome). o .number) (planned-judged (headBoards bytes) (headSets bytes) (headSettings bytes) ok) ∙ ok
+  plan-judged = ap (λ (o : Outcome). o .number) (planned-judged (headBoards bytes) (headSets w bytes) (headSettings w bytes) ok) ∙ ok
 
 -- A test that must hold does where nothing is refused.
 not-refused : (b : Bool) (refuse : Outcome) → refuse .number ≢ 0 → cond b (taken []) refuse .number ≡ 0 → b ≡ true
@@ -69,28 +70,28 @@ not-refused true refuse l e = refl
 not-refused false refuse l e = absurd (l e)
 
 -- An accepted head's bytes.
-pub head-good : (bytes : List ℕ) → judgeHead bytes .number ≡ 0 → GoodHead (headOf bytes)
+pub head-good : (w : Width) (bytes : List ℕ) → judgeHead w bytes .number ≡ 0 → GoodHead (headOf w bytes)
 unfolding judgeHead headOf
-head-good bytes e =
+head-good w bytes e =
     let n = headBoards bytes in
-    let s = headCount bytes in
-    let short = ltb (length bytes) (headLength 0) in
-    let uneven = not (eqb (length bytes) (headLength s)) in
+    let s = headCount w bytes in
+    let short = ltb (length bytes) (headLength w 0) in
+    let uneven = not (eqb (length bytes) (headLength w s)) in
     let (sized, judgements) = passed (short || uneven) (refused 22) _ (omega arith) e in
-    let whole : length bytes ≡ headLength s = eqb-true (length bytes) (headLength s) (not-f (eqb (length bytes) (headLength s)) (or-r short uneven sized)) in
-    let (plan, later) = both-taken (planning n s (headSets bytes) (headSettings bytes)) _ judgements in
+    let whole : length bytes ≡ headLength w s = eqb-true (length bytes) (headLength w s) (not-f (eqb (length bytes) (headLength w s)) (or-r short uneven sized)) in
+    let (plan, later) = both-taken (planning n s (headSets w bytes) (headSettings w bytes)) _ judgements in
     let (word, faulty) = both-taken _ _ later in
-    let inside = within (headFaulty bytes) (boards n) in
-    let borne = tolerated (headSets bytes) (headFaulty bytes) in
+    let inside = within (headFaulty w bytes) (boards n) in
+    let borne = tolerated (headSets w bytes) (headFaulty w bytes) in
     let both = not-refused (inside && borne) (refused 23) (omega arith) faulty in
-    let ok = subst (λ c. planning n c (headSets bytes) (headSettings bytes) .number ≡ 0) (sym (sets-size bytes whole)) plan in
-    let span = headSettings bytes .span in
-    let below = leb-false span (headWord bytes) (passed (leb span (headWord bytes)) (refused 18) (taken []) (omega arith) word .0) in
+    let ok = subst (λ c. planning n c (headSets w bytes) (headSettings w bytes) .number ≡ 0) (sym (sets-size w bytes whole)) plan in
+    let span = headSettings w bytes .span in
+    let below = leb-false span (headWord w bytes) (passed (leb span (headWord w bytes)) (refused 18) (taken []) (omega arith) word .0) in
     record {
-      accepted = plan-judged bytes ok;
-      word-below = subst (λ m. headWord bytes < m) (sym (plan-span bytes ok)) below;
-      faulty-within = ap (λ k. within (headFaulty bytes) (boards k)) (plan-n bytes ok) ∙ and-l inside borne both;
-      faulty-tolerated = ap (λ sets. tolerated sets (headFaulty bytes)) (plan-listed bytes ok) ∙ and-r inside borne both;
+      accepted = plan-judged w bytes ok;
+      word-below = subst (λ m. headWord w bytes < m) (sym (plan-span w bytes ok)) below;
+      faulty-within = ap (λ k. within (headFaulty w bytes) (boards k)) (plan-n w bytes ok) ∙ and-l inside borne both;
+      faulty-tolerated = ap (λ sets. tolerated sets (headFaulty w bytes)) (plan-listed w bytes ok) ∙ and-r inside borne both;
     }
 
 -- Reading line by line: what each case leaves.
@@ -121,48 +122,48 @@ frames-head h before line (l ∷ ls) = go (λ f. frames-head h (some f) (suc lin
         (λ b. ap (λ (r : Reading). r .head) (frames-right h before line l ls bytes e b) ∙ ih (frameLine bytes))
         (λ b. ap (λ (r : Reading). r .head) (frames-wrong h before line l ls bytes e b))
 
-pub head-right : (bytes : List ℕ) (ls : List Line) → judgeHead bytes .number ≡ 0 → readHead bytes ls ≡ readFrames (headOf bytes) none 2 ls
+pub head-right : (w : Width) (bytes : List ℕ) (ls : List Line) → judgeHead w bytes .number ≡ 0 → readHead w bytes ls ≡ readFrames (headOf w bytes) none 2 ls
 unfolding readHead
-head-right bytes ls e = rw (eq-eqb (judgeHead bytes .number) 0 e, readHead)
+head-right w bytes ls e = rw (eq-eqb (judgeHead w bytes .number) 0 e, readHead)
 
-pub head-wrong : (bytes : List ℕ) (ls : List Line) → judgeHead bytes .number ≢ 0 → readHead bytes ls ≡ refusedReading (headOf bytes) 1 (judgeHead bytes)
+pub head-wrong : (w : Width) (bytes : List ℕ) (ls : List Line) → judgeHead w bytes .number ≢ 0 → readHead w bytes ls ≡ refusedReading (headOf w bytes) 1 (judgeHead w bytes)
 unfolding readHead
-head-wrong bytes ls e = rw (ne-eqb (judgeHead bytes .number) 0 e, readHead)
+head-wrong w bytes ls e = rw (ne-eqb (judgeHead w bytes .number) 0 e, readHead)
 
-pub lines-text : (l : Line) (ls : List Line) → lineBytes l ≡ none → readLines (l ∷ ls) ≡ refusedReading (headOf []) 1 (refused 21)
+pub lines-text : (w : Width) (l : Line) (ls : List Line) → lineBytes l ≡ none → readLines w (l ∷ ls) ≡ refusedReading (headOf w []) 1 (refused 21)
 unfolding readLines
-lines-text l ls e = rw (e, readLines)
+lines-text w l ls e = rw (e, readLines)
 
-pub lines-head : (l : Line) (ls : List Line) (bytes : List ℕ) → lineBytes l ≡ some bytes → readLines (l ∷ ls) ≡ readHead bytes ls
+pub lines-head : (w : Width) (l : Line) (ls : List Line) (bytes : List ℕ) → lineBytes l ≡ some bytes → readLines w (l ∷ ls) ≡ readHead w bytes ls
 unfolding readLines
-lines-head l ls bytes e = rw (e, readLines)
+lines-head w l ls bytes e = rw (e, readLines)
 
 refused-number : (h : Head) (line : ℕ) (o : Outcome) → refusedReading h line o .answer .number ≡ o .number
 unfolding refusedReading wrongAt
 refused-number h line o = refl
 
 -- The head of lines that are accepted.
-lines-good : (ls : List Line) → readLines ls .answer .number ≡ 0 → GoodHead (readLines ls .head)
+lines-good : (w : Width) (ls : List Line) → readLines w ls .answer .number ≡ 0 → GoodHead (readLines w ls .head)
 unfolding readLines refusedReading
-lines-good [] e = absurd (let z : 22 ≡ 0 = sym (refused-number (headOf []) 1 (refused 22)) ∙ e in omega arith)
-lines-good (l ∷ ls) e = go (lineBytes l) refl
+lines-good w [] e = absurd (let z : 22 ≡ 0 = sym (refused-number (headOf w []) 1 (refused 22)) ∙ e in omega arith)
+lines-good w (l ∷ ls) e = go (lineBytes l) refl
   where
-    go : (o : Option (List ℕ)) → lineBytes l ≡ o → GoodHead (readLines (l ∷ ls) .head)
-    go none x = absurd (let z : 21 ≡ 0 = sym (ap (λ (r : Reading). r .answer .number) (lines-text l ls x) ∙ refused-number (headOf []) 1 (refused 21)) ∙ e in omega arith)
+    go : (o : Option (List ℕ)) → lineBytes l ≡ o → GoodHead (readLines w (l ∷ ls) .head)
+    go none x = absurd (let z : 21 ≡ 0 = sym (ap (λ (r : Reading). r .answer .number) (lines-text w l ls x) ∙ refused-number (headOf w []) 1 (refused 21)) ∙ e in omega arith)
     go (some bytes) x =
-        let y = lines-head l ls bytes x in
-        let e′ : readHead bytes ls .answer .number ≡ 0 = ap (λ (r : Reading). r .answer .number) (sym y) ∙ e in
-        let good : judgeHead bytes .number ≡ 0 =
-        cases (eqb (judgeHead bytes .number) 0)
-        (λ t. eqb-true (judgeHead bytes .number) 0 t)
-        (λ t. let w = head-wrong bytes ls (eqb-false (judgeHead bytes .number) 0 t) in
-        sym (ap (λ (r : Reading). r .answer .number) w ∙ refused-number (headOf bytes) 1 (judgeHead bytes)) ∙ e′) in
-        subst GoodHead (sym (ap (λ (r : Reading). r .head) (y ∙ head-right bytes ls good) ∙ frames-head (headOf bytes) none 2 ls)) (head-good bytes good)
+        let y = lines-head w l ls bytes x in
+        let e′ : readHead w bytes ls .answer .number ≡ 0 = ap (λ (r : Reading). r .answer .number) (sym y) ∙ e in
+        let good : judgeHead w bytes .number ≡ 0 =
+        cases (eqb (judgeHead w bytes .number) 0)
+        (λ t. eqb-true (judgeHead w bytes .number) 0 t)
+        (λ t. let wrong = head-wrong w bytes ls (eqb-false (judgeHead w bytes .number) 0 t) in
+        sym (ap (λ (r : Reading). r .answer .number) wrong ∙ refused-number (headOf w bytes) 1 (judgeHead w bytes)) ∙ e′) in
+        subst GoodHead (sym (ap (λ (r : Reading). r .head) (y ∙ head-right w bytes ls good) ∙ frames-head (headOf w bytes) none 2 ls)) (head-good w bytes good)
 
 -- An accepted sheet's head.
-pub sheet-head : (text : List ℕ) → reading text .answer .number ≡ 0 → GoodHead (reading text .head)
+pub sheet-head : (w : Width) (text : List ℕ) → reading w text .answer .number ≡ 0 → GoodHead (reading w text .head)
 unfolding reading
-sheet-head text e = lines-good (lines text) e
+sheet-head w text e = lines-good w (lines text) e
 
 -- At most seven boards.
 pub few-boards : (h : Head) → GoodHead h → h .plan .n ≤ 7
@@ -182,11 +183,11 @@ part-length n i cells l b room =
     length-take-le c (drop (i * c) cells) (omega (arith, length-drop (i * c) cells, parts-most n l))
 
 -- The session that an accepted sheet plays is sound.
-pub sheet-sound : (text cells : List ℕ) → reading text .answer .number ≡ 0 → cellsNeeded ≤ length cells → Sound (setting (reading text .head) cells)
+pub sheet-sound : (w : Width) (text cells : List ℕ) → reading w text .answer .number ≡ 0 → cellsNeeded ≤ length cells → Sound (setting w (reading w text .head) cells)
 unfolding setting keeper
-sheet-sound text cells e room =
-    let h = reading text .head in
-    let g = sheet-head text e in
+sheet-sound w text cells e room =
+    let h = reading w text .head in
+    let g = sheet-head w text e in
     record {
       accepted = g .accepted;
       tolerable = g .faulty-tolerated;

@@ -4,6 +4,7 @@ use mathlib.Core.Bool.{Bool, true, _&&_}
 use mathlib.Core.List.{List, [], _∷_, _++_}
 use lib.Dec.{eqb}
 use lib.ListN.{length, getD, replicate}
+use Rattle.codec.specs.Codec.{current}
 use Rattle.sets.specs.Only.{sameList}
 use Rattle.plan.specs.declared.plan.Plan.{Plan}
 use Rattle.heights.specs.Levels.{height}
@@ -26,7 +27,6 @@ use Rattle.protocol.specs.Calls.{beginning, receiving, deciding}
 use Rattle.protocol.specs.Session.{boardAt}
 use Rattle.sheet.specs.Sheet.{reading}
 use Rattle.sheet.specs.Playing.{Play, finalBoards, playing, benchPrints}
-use Rattle.tree.specs.Cells.{blank}
 
 pub data Row : Type 0 where
   -- n, sets: the number and the values of admitting
@@ -80,12 +80,12 @@ unfoldable pub lentCells : List ℕ
 lentCells = replicate cellsNeeded 7
 
 unfoldable pub lentOut : List ℕ
-lentOut = replicate outputNeeded 9
+lentOut = replicate (outputNeeded current) 9
 
 unfoldable pub played : Play → List ℕ → List ℕ → Bool
 played r text cells =
     (eqb (r .answer .number) 0 && sameList (r .answer .values) (length text ∷ []))
-    && (sameList (r .out) (text ++ replicate (outputNeeded - length text) 9) && sameList (r .cells) (cells ++ replicate (cellsNeeded - length cells) 7))
+    && (sameList (r .out) (text ++ replicate (outputNeeded current - length text) 9) && sameList (r .cells) (cells ++ replicate (cellsNeeded - length cells) 7))
 
 -- The settings with a span of 16 and the default 0.
 abbrev sixteen : ℕ → ℕ → Settings
@@ -103,19 +103,19 @@ holds (schedule n sets d b h t j) =
     let p = planned n sets (sixteen d b) in
     (isAccepted n sets d b && eqb (height p) h) && (eqb (runs p .0) t && eqb (steps p) j)
 holds (tree n sets d k) = let p = planned n sets (sixteen d 0) in isAccepted n sets d 0 && eqb (nodeCount p (rounds p .0)) k
-holds (sheet text out cells) = let r = playing text lentCells lentOut in played r out cells
-holds (refusedSheet text line) = sameList (benchPrints text lentCells lentOut) line
+holds (sheet text out cells) = let r = playing current text lentCells lentOut in played r out cells
+holds (refusedSheet text line) = sameList (benchPrints current text lentCells lentOut) line
 holds (stored m x list vs c) =
     let p = planned 4 (1 ∷ 2 ∷ 4 ∷ 8 ∷ []) (record { dealer = 0; span = m; default = x; depth = 0 }) in
-    let b = beginning p 1 (replicate 16 9) .board in
+    let b = beginning current p 1 (replicate 16 9) .board in
     let r = receiving (boardWith (standingAt p (b .rec .board) (b .rec .run) (b .rec .round) list) (b .cells)) 0 vs in
-    eqb (r .answer .number) 0 && eqb (getD (r .board .cells) 0 blank) c
+    eqb (r .answer .number) 0 && eqb (getD (r .board .cells) 0 0) c
 holds (gathered x cells entries after) =
     let s = gather (boardWith (withMarks (standingAt (fivePlan x) 2 (record { 0 = 1 }) (record { 0 = 3 }) noEntries) 0x1A) (cells ++ replicate 48 9)) in
     sameList (log (s .list) 0 7) entries && sameList (s .cells) (after ++ replicate 48 9)
 holds (logged text i entries) =
-    let r = reading text in
-    eqb (r .answer .number) 0 && sameList (log (boardAt (finalBoards (r .head) (r .frames) lentCells) i .rec .list) 0 7) entries
+    let r = reading current text in
+    eqb (r .answer .number) 0 && sameList (log (boardAt (finalBoards current (r .head) (r .frames) lentCells) i .rec .list) 0 7) entries
 holds (entered q t k rule number) =
     eqb (deciding (standingAt (fivePlan 0) 2 (record { 0 = 1 }) (record { 0 = 1 }) (oneEntry q t k rule)) .number) number
 

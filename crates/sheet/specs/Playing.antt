@@ -5,7 +5,7 @@ use mathlib.Core.List.{List, [], _∷_, _++_}
 use mathlib.Core.Option.{Option, some, none}
 use lib.Dec.{eqb, ltb}
 use lib.ListN.{length, getD, take, drop}
-use Rattle.codec.specs.Codec.{encode, decode}
+use Rattle.codec.specs.Codec.{Width, encode, decode}
 use Rattle.hex.specs.Hex.{hexByte, hexBytes}
 use Rattle.sets.specs.Sets.{member}
 use Rattle.sets.specs.Structure.{heldAt}
@@ -29,13 +29,13 @@ findFrame t k q i (f ∷ fs) =
     cond ((eqb (f .run .0) (t .0) && eqb (f .round .0) (k .0)) && (eqb (f .sender) q && eqb (f .receiver) i)) (some (f .values)) rest
 
 -- The values of a frame's bytes, if there is one.
-unfoldable pub decoded : Option (List ℕ) → Option (List ℕ)
-decoded none = none
-decoded (some f) = some (decode f)
+unfoldable pub decoded : Width → Option (List ℕ) → Option (List ℕ)
+decoded w none = none
+decoded w (some f) = some (decode w f)
 
 -- What the faulty boards do: step j, from 0, is round number j + 1 over all runs.
-unfoldable pub sheetAdversary : Head → List Frame → Adversary
-sheetAdversary h fs i j q = let p = h .plan in decoded (findFrame (stepRun p (suc j)) (stepRound p (suc j)) q i fs)
+unfoldable pub sheetAdversary : Width → Head → List Frame → Adversary
+sheetAdversary w h fs i j q = let p = h .plan in decoded w (findFrame (stepRun p (suc j)) (stepRound p (suc j)) q i fs)
 
 -- 01: "Board i's part starts at i times the cells for n".
 unfoldable pub part : ℕ → ℕ → List ℕ → List ℕ
@@ -44,40 +44,40 @@ part n i cells = take (cellCount n) (drop (i * cellCount n) cells)
 unfoldable pub replacePart : ℕ → ℕ → List ℕ → List ℕ → List ℕ
 replacePart n i new cells = take (i * cellCount n) cells ++ (new ++ drop (i * cellCount n + cellCount n) cells)
 
-unfoldable pub setting : Head → List ℕ → Setting
-setting h cells = record { plan = h .plan; faulty = h .faulty; word = h .word; buffer = λ i. part (h .plan .n) i cells }
+unfoldable pub setting : Width → Head → List ℕ → Setting
+setting w h cells = record { width = w; plan = h .plan; faulty = h .faulty; word = h .word; buffer = λ i. part (h .plan .n) i cells }
 
 -- All boards at the end.
-unfoldable pub finalBoards : Head → List Frame → List ℕ → Boards
-finalBoards h fs cells = session (setting h cells) (sheetAdversary h fs) (steps (h .plan))
+unfoldable pub finalBoards : Width → Head → List Frame → List ℕ → Boards
+finalBoards w h fs cells = session (setting w h cells) (sheetAdversary w h fs) (steps (h .plan))
 
 -- A value as the digits of its bytes.
-unfoldable pub hexValue : ℕ → List ℕ → List ℕ
-hexValue v rest = hexBytes (encode (v ∷ [])) rest
+unfoldable pub hexValue : Width → ℕ → List ℕ → List ℕ
+hexValue w v rest = hexBytes (encode w (v ∷ [])) rest
 
 -- 01: "prints for each board outside F, rising: board, decision, list as a set"; 02 c: "Each printed line gains a fourth byte".
-unfoldable pub printed : ℕ → ℕ → ℕ → ℕ → List ℕ → List ℕ
-printed i decision list place rest = hexByte i (hexValue decision (hexByte list (hexByte place (10 ∷ rest))))
+unfoldable pub printed : Width → ℕ → ℕ → ℕ → ℕ → List ℕ → List ℕ
+printed w i decision list place rest = hexByte i (hexValue w decision (hexByte list (hexByte place (10 ∷ rest))))
 
 -- The line of board i. 02 c: "the place for that board's list, 00 for the dealer". The dealer's line has its value and an empty list.
-unfoldable pub boardLine : Head → Boards → ℕ → List ℕ → List ℕ
-boardLine h w i rest =
-    let b = boardAt w i in
+unfoldable pub boardLine : Width → Head → Boards → ℕ → List ℕ → List ℕ
+boardLine w h bs i rest =
+    let b = boardAt bs i in
     let list = asSet (b .rec .list) in
-    let keepers = printed i (b .rec .decision) list (heldAt (listed (h .plan)) list) rest in
-    cond (member i (h .faulty)) rest (cond (eqb i (h .plan .dealer)) (printed i (h .word) 0 0 rest) keepers)
+    let keepers = printed w i (b .rec .decision) list (heldAt (listed (h .plan)) list) rest in
+    cond (member i (h .faulty)) rest (cond (eqb i (h .plan .dealer)) (printed w i (h .word) 0 0 rest) keepers)
 
 -- The lines of the boards i to i + k - 1.
-unfoldable pub printBoards : Head → Boards → ℕ → ℕ → List ℕ
-printBoards h w i zero = []
-printBoards h w i (suc k) = boardLine h w i (printBoards h w (suc i) k)
+unfoldable pub printBoards : Width → Head → Boards → ℕ → ℕ → List ℕ
+printBoards w h bs i zero = []
+printBoards w h bs i (suc k) = boardLine w h bs i (printBoards w h bs (suc i) k)
 
 -- 01: the parts of d and of F, and what lies past part n − 1, are not touched.
 unfoldable pub finalCells : Head → Boards → ℕ → List ℕ → List ℕ
-finalCells h w zero cells = cells
-finalCells h w (suc k) cells =
-    let rest = finalCells h w k cells in
-    let new = replacePart (h .plan .n) k (boardAt w k .cells) rest in
+finalCells h bs zero cells = cells
+finalCells h bs (suc k) cells =
+    let rest = finalCells h bs k cells in
+    let new = replacePart (h .plan .n) k (boardAt bs k .cells) rest in
     cond (member k (h .faulty) || eqb k (h .plan .dealer)) rest new
 
 -- What playing leaves: the answer, the cells and the output.
@@ -90,19 +90,19 @@ unfoldable pub refusedPlay : Outcome → List ℕ → List ℕ → Play
 refusedPlay o cells out = record { answer = o; cells = cells; out = out }
 
 -- An accepted sheet.
-unfoldable pub playHead : Head → List Frame → List ℕ → List ℕ → Play
-playHead h fs cells out =
-    let w = finalBoards h fs cells in
-    let text = printBoards h w 0 (h .plan .n) in
-    record { answer = taken (length text ∷ []); cells = finalCells h w (h .plan .n) cells; out = text ++ drop (length text) out }
+unfoldable pub playHead : Width → Head → List Frame → List ℕ → List ℕ → Play
+playHead w h fs cells out =
+    let bs = finalBoards w h fs cells in
+    let text = printBoards w h bs 0 (h .plan .n) in
+    record { answer = taken (length text ∷ []); cells = finalCells h bs (h .plan .n) cells; out = text ++ drop (length text) out }
 
 -- 01, 'Playing a sheet': 20, 17, 11, then line by line. Values of a refusal begin with its line, 0 if it is no line's.
-unfoldable pub playing : List ℕ → List ℕ → List ℕ → Play
-playing text cells out =
-    let r = reading text in
-    let accepted = playHead (r .head) (r .frames) cells out in
+unfoldable pub playing : Width → List ℕ → List ℕ → List ℕ → Play
+playing w text cells out =
+    let r = reading w text in
+    let accepted = playHead w (r .head) (r .frames) cells out in
     cond (ltb sheetMost (length text)) (refusedPlay (wrongAt 0 (refused 20)) cells out)
-    (cond (ltb (length out) outputNeeded) (refusedPlay (wrongAt 0 (refused 17)) cells out)
+    (cond (ltb (length out) (outputNeeded w)) (refusedPlay (wrongAt 0 (refused 17)) cells out)
     (cond (ltb (length cells) cellsNeeded) (refusedPlay (wrongAt 0 (refused 11)) cells out)
     (cond (eqb (r .answer .number) 0) accepted (refusedPlay (r .answer) cells out))))
 
@@ -111,9 +111,9 @@ unfoldable pub refusalText : ℕ → ℕ → List ℕ
 refusalText number line = hexByte 255 (hexByte number (hexByte (line / 256) (hexByte (line % 256) (10 ∷ []))))
 
 -- What the program bench prints for a sheet, with the buffers that it lends.
-unfoldable pub benchPrints : List ℕ → List ℕ → List ℕ → List ℕ
-benchPrints text cells out =
-    let r = playing text cells out in
+unfoldable pub benchPrints : Width → List ℕ → List ℕ → List ℕ → List ℕ
+benchPrints w text cells out =
+    let r = playing w text cells out in
     let first = getD (r .answer .values) 0 0 in
     let lines = take first (r .out) in
     cond (eqb (r .answer .number) 0) lines (refusalText (r .answer .number) first)

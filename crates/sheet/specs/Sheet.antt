@@ -5,7 +5,7 @@ use mathlib.Core.List.{List, [], _∷_}
 use mathlib.Core.Option.{Option, some, none}
 use lib.Dec.{eqb, leb, ltb}
 use lib.ListN.{length, getD, take, drop}
-use Rattle.codec.specs.Codec.{width, numberAt}
+use Rattle.codec.specs.Codec.{Width, valueSize, numberAt}
 use Rattle.hex.specs.Hex.{bytesOf}
 use Rattle.sets.specs.Sets.{member, within, boards}
 use Rattle.sets.specs.Structure.{tolerated}
@@ -41,71 +41,72 @@ unfoldable pub lineBytes : Line → Option (List ℕ)
 lineBytes l = let bytes = bytesOf (l .text) in cond (l .ended) bytes none
 
 -- 01: "The head is n, m, d, b, the dealer's value, s, then s sets, then F"; 02 b: a default, "in the head right after the
--- span". Where each stands; m, the default and the dealer's value have a value's bytes, the others one. n stands at 0.
-abbrev pub spanPlace : ℕ
-spanPlace = 1
+-- span". Where each stands; m, the default and the dealer's value have a value's bytes, by its width, the others one. n
+-- stands at 0.
+abbrev pub spanPlace : Width → ℕ
+spanPlace w = 1
 
-abbrev pub defaultPlace : ℕ
-defaultPlace = spanPlace + width
+abbrev pub defaultPlace : Width → ℕ
+defaultPlace w = spanPlace w + valueSize w
 
-abbrev pub dealerPlace : ℕ
-dealerPlace = defaultPlace + width
+abbrev pub dealerPlace : Width → ℕ
+dealerPlace w = defaultPlace w + valueSize w
 
-abbrev pub depthPlace : ℕ
-depthPlace = dealerPlace + 1
+abbrev pub depthPlace : Width → ℕ
+depthPlace w = dealerPlace w + 1
 
-abbrev pub wordPlace : ℕ
-wordPlace = depthPlace + 1
+abbrev pub wordPlace : Width → ℕ
+wordPlace w = depthPlace w + 1
 
-abbrev pub countPlace : ℕ
-countPlace = wordPlace + width
+abbrev pub countPlace : Width → ℕ
+countPlace w = wordPlace w + valueSize w
 
-abbrev pub setsPlace : ℕ
-setsPlace = countPlace + 1
+abbrev pub setsPlace : Width → ℕ
+setsPlace w = countPlace w + 1
 
 -- The bytes of a head with s sets.
-abbrev pub headLength : ℕ → ℕ
-headLength s = setsPlace + 1 + s
+abbrev pub headLength : Width → ℕ → ℕ
+headLength w s = setsPlace w + 1 + s
 
 -- What a head's bytes name: the number of boards, of sets, the sets, the settings, the faulty boards and the dealer's value.
 abbrev pub headBoards : List ℕ → ℕ
 headBoards bytes = getD bytes 0 0
 
-abbrev pub headCount : List ℕ → ℕ
-headCount bytes = getD bytes countPlace 0
+abbrev pub headCount : Width → List ℕ → ℕ
+headCount w bytes = getD bytes (countPlace w) 0
 
-abbrev pub headSets : List ℕ → List ℕ
-headSets bytes = take (headCount bytes) (drop setsPlace bytes)
+abbrev pub headSets : Width → List ℕ → List ℕ
+headSets w bytes = take (headCount w bytes) (drop (setsPlace w) bytes)
 
-abbrev pub headSettings : List ℕ → Settings
-headSettings bytes = record {
-  dealer = getD bytes dealerPlace 0;
-  span = numberAt bytes spanPlace;
-  default = numberAt bytes defaultPlace;
-  depth = getD bytes depthPlace 0;
+abbrev pub headSettings : Width → List ℕ → Settings
+headSettings w bytes = record {
+  dealer = getD bytes (dealerPlace w) 0;
+  span = numberAt w bytes (spanPlace w);
+  default = numberAt w bytes (defaultPlace w);
+  depth = getD bytes (depthPlace w) 0;
 }
 
-abbrev pub headFaulty : List ℕ → ℕ
-headFaulty bytes = getD bytes (setsPlace + headCount bytes) 0
+abbrev pub headFaulty : Width → List ℕ → ℕ
+headFaulty w bytes = getD bytes (setsPlace w + headCount w bytes) 0
 
-abbrev pub headWord : List ℕ → ℕ
-headWord bytes = numberAt bytes wordPlace
+abbrev pub headWord : Width → List ℕ → ℕ
+headWord w bytes = numberAt w bytes (wordPlace w)
 
 -- The head: its plan, the faulty boards and the dealer's value.
-unfoldable pub headOf : List ℕ → Head
-headOf bytes = record {
-  plan = planned (headBoards bytes) (headSets bytes) (headSettings bytes);
-  faulty = headFaulty bytes;
-  word = headWord bytes;
+unfoldable pub headOf : Width → List ℕ → Head
+headOf w bytes = record {
+  plan = planned (headBoards bytes) (headSets w bytes) (headSettings w bytes);
+  faulty = headFaulty w bytes;
+  word = headWord w bytes;
 }
 
 -- 01, 'Playing a sheet', head: 22; 1 to 7, 26 (02 b), 8; 18; 23. 02 b: "a head has 8 + s bytes and number 22 reads so".
-unfoldable pub judgeHead : List ℕ → Outcome
-judgeHead bytes =
-    let plan = planning (headBoards bytes) (headCount bytes) (headSets bytes) (headSettings bytes) in
-    let word = cond (leb (headSettings bytes .span) (headWord bytes)) (refused 18) (taken []) in
-    let faulty = cond (within (headFaulty bytes) (boards (headBoards bytes)) && tolerated (headSets bytes) (headFaulty bytes)) (taken []) (refused 23) in
-    cond (ltb (length bytes) (headLength 0) || not (eqb (length bytes) (headLength (headCount bytes)))) (refused 22)
+unfoldable pub judgeHead : Width → List ℕ → Outcome
+judgeHead w bytes =
+    let plan = planning (headBoards bytes) (headCount w bytes) (headSets w bytes) (headSettings w bytes) in
+    let word = cond (leb (headSettings w bytes .span) (headWord w bytes)) (refused 18) (taken []) in
+    let faulty = cond (within (headFaulty w bytes) (boards (headBoards bytes)) && tolerated (headSets w bytes) (headFaulty w bytes)) (taken []) (refused 23) in
+    cond (ltb (length bytes) (headLength w 0) || not (eqb (length bytes) (headLength w (headCount w bytes)))) (refused 22)
     (andThen plan (andThen word faulty))
 
 -- 01: "Then one frame a line: run, round, sender, receiver, values". The values are kept as their bytes.
@@ -172,16 +173,16 @@ readFrames h before line (l ∷ ls) =
           ]
     ]
 
-unfoldable pub readHead : List ℕ → List Line → Reading
-readHead bytes ls =
-    let h = headOf bytes in
-    let o = judgeHead bytes in
+unfoldable pub readHead : Width → List ℕ → List Line → Reading
+readHead w bytes ls =
+    let h = headOf w bytes in
+    let o = judgeHead w bytes in
     elim (eqb (o .number) 0) [ true ↦ readFrames h none 2 ls | false ↦ refusedReading h 1 o ]
 
 -- The whole sheet, line by line. An empty sheet is number 22 at line 1.
-unfoldable pub readLines : List Line → Reading
-readLines [] = refusedReading (headOf []) 1 (refused 22)
-readLines (l ∷ ls) = elim (lineBytes l) [ none ↦ refusedReading (headOf []) 1 (refused 21) | some bytes ↦ readHead bytes ls ]
+unfoldable pub readLines : Width → List Line → Reading
+readLines w [] = refusedReading (headOf w []) 1 (refused 22)
+readLines w (l ∷ ls) = elim (lineBytes l) [ none ↦ refusedReading (headOf w []) 1 (refused 21) | some bytes ↦ readHead w bytes ls ]
 
-unfoldable pub reading : List ℕ → Reading
-reading text = readLines (lines text)
+unfoldable pub reading : Width → List ℕ → Reading
+reading w text = readLines w (lines text)
