@@ -12,6 +12,7 @@ use lib.Dec.{eqb}
 use lib.ListN.{length, getD}
 use lib.Seq.{set-comm}
 use borrow.Author.Tests.{eqb-true, eqb-false, eq-eqb, ne-eqb}
+use Rattle.codec.specs.Codec.{Width}
 use Rattle.sets.specs.Sets.{member, insert, within}
 use Rattle.sets.proofs.Tests.{cases, clash, and-true}
 use Rattle.sets.proofs.Member.{member-insert, member-within}
@@ -23,12 +24,12 @@ use Rattle.schedule.specs.declared.rounds.Round.{Round}
 use Rattle.tree.specs.Labels.{Label}
 use Rattle.tree.proofs.Labels.{label-length, root-has}
 use Rattle.tree.specs.Places.{cellCount, place}
-use Rattle.tree.specs.Cells.{cellAt, store, blank}
+use Rattle.tree.specs.Cells.{cellAt, store}
 use Rattle.tree.proofs.Places.{place-injective}
 use Rattle.tree.proofs.Cells.{root-cell}
 use Rattle.protocol.specs.declared.records.Record.{Record}
 use Rattle.protocol.specs.Nodes.{read, sent, due, frame}
-use Rattle.protocol.specs.Rounds.{boardWith, Board, fill, counted, receive}
+use Rattle.protocol.specs.Rounds.{boardOf, Board, fill, counted, receive}
 use Rattle.protocol.specs.Calls.{judgeOpen, judgeReceiving, frameOf}
 use Rattle.protocol.proofs.Nodes.{inner-inv, node-label, node-length, sent-inv, sent-first}
 use Rattle.protocol.proofs.Fill.{IsLabel, Children}
@@ -195,8 +196,8 @@ module _ (r : Record) (msg : ℕ → Option (List ℕ)) (q : ℕ) (f : List ℕ)
     marks-more =
         let n = r .plan .n in
         same-members n (marks (r .plan) (r .board) (r .round) (r .list) (update msg q f) n) (insert q (marks (r .plan) (r .board) (r .round) (r .list) msg n))
-        (marks-below r g undecided (update msg q f) cells room n (omega arith))
-        (insert-below n q (marks (r .plan) (r .board) (r .round) (r .list) msg n) lq (marks-below r g undecided msg cells room n (omega arith)))
+        (marks-below r g (update msg q f) n (omega arith))
+        (insert-below n q (marks (r .plan) (r .board) (r .round) (r .list) msg n) lq (marks-below r g msg n (omega arith)))
         (λ x l. marks-at (r .plan) (r .board) (r .round) (r .list) (update msg q f) n x l ∙ cases (eqb x q)
         (λ e. rw (eqb-true x q e) (accepts-here d ∙ sym (member-insert q q (marks (r .plan) (r .board) (r .round) (r .list) msg n) ∙ rw (eq-eqb q q refl))))
         (λ e. accepts-other x (eqb-false x q e) ∙ sym (member-insert x q (marks (r .plan) (r .board) (r .round) (r .list) msg n) ∙ rw e (marks-at (r .plan) (r .board) (r .round) (r .list) msg n x l))))
@@ -211,20 +212,20 @@ map-same f g [] h = refl
 map-same f g (α ∷ αs) h = ap₂ _∷_ (h α (List·Memᴰ·head refl)) (map-same f g αs (λ β w. h β (List·Memᴰ·tail w)))
 
 -- The board with these marks and cells.
-abbrev holding : Record → ℕ → List ℕ → Board
-holding r t cells = boardWith (withMarks r t) cells
+abbrev holding : Width → Record → ℕ → List ℕ → Board
+holding w r t cells = boardOf w (withMarks r t) cells
 
 -- A board that has heard all others.
-module _ (r : Record) (g : Good r) (undecided : r .decided ≡ false) (cells : List ℕ) (room : cellCount (r .plan .n) ≤ length cells) where
+module _ (w : Width) (r : Record) (g : Good r) (undecided : r .decided ≡ false) (cells : List ℕ) (room : cellCount (r .plan .n) ≤ length cells) where
   abbrev pub heardAll : (ℕ → Option (List ℕ)) → Board
-  heardAll msg = heard r g undecided msg cells room (r .plan .n)
+  heardAll msg = heard w r g undecided msg cells room (r .plan .n)
 
   -- Taking one frame more is having been told it with the others.
   pub heard-more : (msg : ℕ → Option (List ℕ)) (q : ℕ) (f : List ℕ) → q < r .plan .n → due (r .plan) q (r .board) (r .round) ≡ true → msg q ≡ none
       → receive q f (heardAll msg) ≡ heardAll (update msg q f)
   unfolding receive counted
   heard-more msg q f lq d new =
-      ap₂ (holding r)
+      ap₂ (holding w r)
       (sym (marks-more r msg q f g undecided cells room lq d new))
       (sym (cells-more r msg q f g undecided cells room lq d new (r .plan .n) lq (omega arith)))
 
@@ -234,7 +235,7 @@ module _ (r : Record) (g : Good r) (undecided : r .decided ≡ false) (cells : L
   unfolding judgeReceiving
   heard-judged msg q =
       taken-first (judgeOpen (heardAll msg)) _
-      (ap (λ o. o .number) (open-taken (heardAll msg) (heard-open r g undecided msg cells room (r .plan .n) (omega arith))))
+      (ap (λ o. o .number) (open-taken (heardAll msg) (heard-open w r g undecided msg cells room (r .plan .n) (omega arith))))
       ∙ cases (due (r .plan) q (r .board) (r .round))
       (λ d. ap (λ b. cond (due (r .plan) q (r .board) (r .round)) (cond b (refused 15) (taken [])) (refused 14)) (marks-at (r .plan) (r .board) (r .round) (r .list) msg (r .plan .n) q (due-sender (r .plan) q (r .board) (r .round) d)))
       (λ d. rw d)
@@ -257,14 +258,14 @@ module _ (r : Record) (g : Good r) (undecided : r .decided ≡ false) (cells : L
       → ((q : ℕ) → q < r .plan .n → accepts (r .plan) (r .board) (r .round) (r .list) msg q ≡ true → content (r .plan) (r .board) (r .round) (r .list) msg q ≡ content (r .plan) (r .board) (r .round) (r .list) msg′ q) → heardAll msg ≡ heardAll msg′
   heard-same msg msg′ a c =
       let h : Alike r msg msg′ (r .plan .n) = record { same-accepts = a; same-content = c } in
-      ap₂ (holding r) (marks-same r msg msg′ (r .plan .n) h) (cells-same r msg msg′ cells (r .plan .n) h)
+      ap₂ (holding w r) (marks-same r msg msg′ (r .plan .n) h) (cells-same r msg msg′ cells (r .plan .n) h)
 
   -- A board that is told nothing keeps its cells, and marks no board.
-  pub heard-none : (msg : ℕ → Option (List ℕ)) → ((q : ℕ) → q < r .plan .n → msg q ≡ none) → heardAll msg ≡ boardWith (withMarks r 0) cells
+  pub heard-none : (msg : ℕ → Option (List ℕ)) → ((q : ℕ) → q < r .plan .n → msg q ≡ none) → heardAll msg ≡ boardOf w (withMarks r 0) cells
   unfolding accepts isGiven
   heard-none msg h =
       let a : (q : ℕ) → q < r .plan .n → accepts (r .plan) (r .board) (r .round) (r .list) msg q ≡ false = λ q l. rw (h q l) (and-false (due (r .plan) q (r .board) (r .round))) in
-      ap₂ (holding r) (marks-none r msg (r .plan .n) a) (cells-none r msg cells (r .plan .n) a)
+      ap₂ (holding w r) (marks-none r msg (r .plan .n) a) (cells-none r msg cells (r .plan .n) a)
 
   -- A board sends cells of the level before, which hearing leaves alone.
   sent-kept : (msg : ℕ → Option (List ℕ)) (j : ℕ) (α : Label) → j ≤ r .plan .n → List·Memᴰ α (sent (r .plan) (r .board) (r .board) (r .round))
@@ -277,22 +278,22 @@ module _ (r : Record) (g : Good r) (undecided : r .decided ≡ false) (cells : L
       (λ e. absurd (g .other (sent-first p i i k α (eqb-true (k .0) 1 e) m .0)))
       (λ e. let here = inner-inv p i (k .0 - 1) α (sent-inv p i i k α (eqb-false (k .0) 1 e) m .0) .0 in
       heard-outside r g undecided msg cells room j h (k .0 - 1) α (node-label p i (k .0 - 1) α here)
-      (λ w. absurd (omega (arith, node-length p i (k .0 - 1) α here, node-length p i (k .0) α w, g .position .round-low))))
+      (λ in-round. absurd (omega (arith, node-length p i (k .0 - 1) α here, node-length p i (k .0) α in-round, g .position .round-low))))
 
   -- What a board sends in a round does not depend on what it hears in it, whether from some boards or from all.
-  pub part-frame : (msg : ℕ → Option (List ℕ)) (j : ℕ) → j ≤ r .plan .n → frameOf (heard r g undecided msg cells room j) ≡ frameOf (boardWith r cells)
+  pub part-frame : (msg : ℕ → Option (List ℕ)) (j : ℕ) → j ≤ r .plan .n → frameOf (heard w r g undecided msg cells room j) ≡ frameOf (boardOf w r cells)
   unfolding frameOf frame read
   part-frame msg j h = map-same _ _ (sent (r .plan) (r .board) (r .board) (r .round)) (λ α m. ap (value (r .plan)) (sent-kept msg j α h m))
 
-  pub heard-frame : (msg : ℕ → Option (List ℕ)) → frameOf (heardAll msg) ≡ frameOf (boardWith r cells)
+  pub heard-frame : (msg : ℕ → Option (List ℕ)) → frameOf (heardAll msg) ≡ frameOf (boardOf w r cells)
   heard-frame msg = part-frame msg (r .plan .n) (omega arith)
 
   -- Past round 1 hearing leaves the root alone.
-  pub heard-root : (msg : ℕ → Option (List ℕ)) → 2 ≤ r .round .0 → getD (heardAll msg .cells) 0 blank ≡ getD cells 0 blank
+  pub heard-root : (msg : ℕ → Option (List ℕ)) → 2 ≤ r .round .0 → getD (heardAll msg .cells) 0 0 ≡ getD cells 0 0
   heard-root msg later =
       let p = r .plan in
       let root = p .dealer ∷ [] in
       sym (root-cell (p .n) (p .dealer) (heardAll msg .cells))
       ∙ heard-outside r g undecided msg cells room (p .n) (omega arith) 1 root (root-has (p .n) (p .dealer))
-      (λ w. absurd (omega (arith, node-length p (r .board) (r .round .0) root w)))
+      (λ in-round. absurd (omega (arith, node-length p (r .board) (r .round .0) root in-round)))
       ∙ root-cell (p .n) (p .dealer) cells

@@ -11,6 +11,7 @@ use lib.Dec.{eqb}
 use lib.ListN.{length, length-map}
 use lib.Pow.{pow-pos}
 use borrow.Author.Tests.{eqb-true, eqb-false, eq-eqb, ne-eqb, lt-ltb}
+use Rattle.codec.specs.Codec.{Width}
 use Rattle.sets.specs.Sets.{member, insert}
 use Rattle.sets.proofs.Tests.{cases, clash, and-r, and-true, not-t, true-not}
 use Rattle.sets.proofs.Member.{member-insert, member-empty}
@@ -29,7 +30,7 @@ use Rattle.protocol.specs.declared.records.Record.{Record}
 use Rattle.protocol.specs.Listing.{asSet}
 use Rattle.protocol.specs.Records.{withMarks}
 use Rattle.protocol.specs.Nodes.{read, nodes, sent, due, frame}
-use Rattle.protocol.specs.Rounds.{boardWith, Board, fill, counted, receive, fillMissing, copyOwn}
+use Rattle.protocol.specs.Rounds.{boardOf, Board, fill, counted, receive, fillMissing, copyOwn}
 use Rattle.protocol.specs.Calls.{isTaken, judgeOpen, judgeReceiving}
 use Rattle.protocol.specs.Session.{takeAll, handIn}
 use Rattle.protocol.proofs.Nodes.{sent-node, node-label}
@@ -98,8 +99,7 @@ marked-good r g t h = record {
   decision-below = g .decision-below;
 }
 
-module _ (r : Record) (g : Good r) (undecided : r .decided ≡ false) (msg : ℕ → Option (List ℕ)) (cells : List ℕ)
-    (room : cellCount (r .plan .n) ≤ length cells) where
+module _ (r : Record) (g : Good r) (msg : ℕ → Option (List ℕ)) where
   abbrev p : Plan
   p = r .plan
 
@@ -113,38 +113,40 @@ module _ (r : Record) (g : Good r) (undecided : r .decided ≡ false) (msg : ℕ
       let ih = marks-below j (omega arith) in
       cases (accepts (r .plan) (r .board) (r .round) (r .list) msg j) (λ e. rw e (insert-below (p .n) j (marks (r .plan) (r .board) (r .round) (r .list) msg j) (omega arith) ih)) (λ e. rw e ih)
 
-  pub heard-length : (j : ℕ) → length (heardCells (r .plan) (r .board) (r .round) (r .list) msg cells j) ≡ length cells
+  pub heard-length : (cells : List ℕ) (j : ℕ) → length (heardCells (r .plan) (r .board) (r .round) (r .list) msg cells j) ≡ length cells
   unfolding heardCells
-  heard-length zero = refl
-  heard-length (suc q) =
-      let ih = heard-length q in
+  heard-length cells zero = refl
+  heard-length cells (suc q) =
+      let ih = heard-length cells q in
       cases (accepts (r .plan) (r .board) (r .round) (r .list) msg q)
       (λ e. rw e (fill-length p l q (sent p q (r .board) (r .round)) (content (r .plan) (r .board) (r .round) (r .list) msg q) (heardCells (r .plan) (r .board) (r .round) (r .list) msg cells q) ∙ ih))
       (λ e. rw e ih)
 
+module _ (w : Width) (r : Record) (g : Good r) (undecided : r .decided ≡ false) (msg : ℕ → Option (List ℕ)) (cells : List ℕ)
+    (room : cellCount (r .plan .n) ≤ length cells) where
   -- The board when it has heard the boards below j.
   abbrev pub heard : ℕ → Board
-  heard j = boardWith (withMarks r (marks (r .plan) (r .board) (r .round) (r .list) msg j)) (heardCells (r .plan) (r .board) (r .round) (r .list) msg cells j)
+  heard j = boardOf w (withMarks r (marks (r .plan) (r .board) (r .round) (r .list) msg j)) (heardCells (r .plan) (r .board) (r .round) (r .list) msg cells j)
 
-  pub heard-open : (j : ℕ) → j ≤ p .n → Open (heard j)
-  heard-open j h = record { good = marked-good r g (marks (r .plan) (r .board) (r .round) (r .list) msg j) (marks-below j h); room = rw (heard-length j) room; undecided = undecided }
+  pub heard-open : (j : ℕ) → j ≤ r .plan .n → Open (heard j)
+  heard-open j h = record { good = marked-good r g (marks (r .plan) (r .board) (r .round) (r .list) msg j) (marks-below r g msg j h); room = rw (heard-length r g msg cells j) room; undecided = undecided }
 
   -- One frame more.
-  judged-due : (q : ℕ) → q < p .n → judgeReceiving (heard q) q ≡ cond (due p q (r .board) (r .round)) (taken []) (refused 14)
+  judged-due : (q : ℕ) → q < r .plan .n → judgeReceiving (heard q) q ≡ cond (due (r .plan) q (r .board) (r .round)) (taken []) (refused 14)
   unfolding judgeReceiving
   judged-due q h =
       taken-first (judgeOpen (heard q)) _ (ap (λ o. o .number) (open-taken (heard q) (heard-open q (omega arith))))
-      ∙ ap (λ b. cond (due p q (r .board) (r .round)) (cond b (refused 15) (taken [])) (refused 14)) (marks-low (r .plan) (r .board) (r .round) (r .list) msg q q (omega arith))
+      ∙ ap (λ b. cond (due (r .plan) q (r .board) (r .round)) (cond b (refused 15) (taken [])) (refused 14)) (marks-low (r .plan) (r .board) (r .round) (r .list) msg q q (omega arith))
 
-  one-more : (q : ℕ) (o : Option (List ℕ)) → msg q ≡ o → q < p .n → handIn q o (heard q) ≡ heard (suc q)
+  one-more : (q : ℕ) (o : Option (List ℕ)) → msg q ≡ o → q < r .plan .n → handIn q o (heard q) ≡ heard (suc q)
   unfolding handIn marks heardCells accepts isGiven content counted
-  one-more q none e h = rw (e, and-false (due p q (r .board) (r .round)))
+  one-more q none e h = rw (e, and-false (due (r .plan) q (r .board) (r .round)))
   one-more q (some f) e h =
-      cases (due p q (r .board) (r .round))
+      cases (due (r .plan) q (r .board) (r .round))
       (λ d. taking-taken (heard q) q f (ap (λ o. o .number) (judged-due q h ∙ ap (λ b. cond b (taken []) (refused 14)) d)) ∙ rw (e, d) (unfold receive in refl))
       (λ d. taking-refused (heard q) q f (ap isTaken (judged-due q h ∙ ap (λ b. cond b (taken []) (refused 14)) d) ∙ unfold isTaken in refl) ∙ rw (e, d))
 
-  pub hear-shape : (b : Board) → b ≡ boardWith (withMarks r 0) cells → (j : ℕ) → j ≤ p .n → takeAll msg b j ≡ heard j
+  pub hear-shape : (b : Board) → b ≡ boardOf w (withMarks r 0) cells → (j : ℕ) → j ≤ r .plan .n → takeAll msg b j ≡ heard j
   unfolding takeAll marks heardCells
   hear-shape b e zero h = e
   hear-shape b e (suc q) h = ap (handIn q (msg q)) (hear-shape b e q (omega arith)) ∙ one-more q (msg q) refl h
@@ -256,7 +258,7 @@ module _ (r : Record) (g : Good r) (undecided : r .decided ≡ false) (msg : ℕ
   stored-length : length stored ≡ length cells
   unfolding stored
   stored-length =
-      missing-length marked L₀ low (g .below) (P₀ .n) (heardCells (r .plan) (r .board) (r .round) (r .list) msg cells (P₀ .n)) ∙ heard-length r g undecided msg cells room (P₀ .n)
+      missing-length marked L₀ low (g .below) (P₀ .n) (heardCells (r .plan) (r .board) (r .round) (r .list) msg cells (P₀ .n)) ∙ heard-length r g msg cells (P₀ .n)
 
   pub filled-length : length filled ≡ length cells
   unfolding filled
@@ -290,7 +292,7 @@ module _ (r : Record) (g : Good r) (undecided : r .decided ≡ false) (msg : ℕ
         other-sender P₀ L₀ (r .board) (r .round) low q (r .board) (frame P₀ (r .board) (r .board) (r .round) stored) stored (r .round .0) α ne (g .below) label
 
     heard-room : cellCount (P₀ .n) ≤ length (heardCells (r .plan) (r .board) (r .round) (r .list) msg cells q)
-    heard-room = rw (heard-length r g undecided msg cells room q) room
+    heard-room = rw (heard-length r g msg cells q) room
 
     taken-cell : q ≢ r .board → accepts (r .plan) (r .board) (r .round) (r .list) msg q ≡ true
         → cellAt (P₀ .n) filled (q ∷ α)
@@ -306,7 +308,7 @@ module _ (r : Record) (g : Good r) (undecided : r .decided ≡ false) (msg : ℕ
     missed-cell ne d a =
         own-keeps ne
         ∙ missing-default marked L₀ low (g .below) q α m lq (P₀ .n) (heardCells (r .plan) (r .board) (r .round) (r .list) msg cells (P₀ .n)) (omega arith) lq
-        (rw (heard-length r g undecided msg cells room (P₀ .n)) room) d (marks-at (r .plan) (r .board) (r .round) (r .list) msg (P₀ .n) q lq ∙ a)
+        (rw (heard-length r g msg cells (P₀ .n)) room) d (marks-at (r .plan) (r .board) (r .round) (r .list) msg (P₀ .n) q lq ∙ a)
 
     -- A listed board counts as silent.
     pub silenced : q ≢ r .board → due P₀ q (r .board) (r .round) ≡ true → member q (asSet (r .list)) ≡ true → read P₀ filled (q ∷ α) ≡ default P₀

@@ -7,6 +7,7 @@ use mathlib.Core.List.{List, [], _∷_, List·Memᴰ, List·Memᴰ·head, List·
 use native.Mathlib.Omega.{arith}
 use lib.Dec.{eqb}
 use lib.ListN.{length}
+use Rattle.codec.specs.Codec.{Width}
 use Rattle.sets.specs.Sets.{member}
 use Rattle.sets.proofs.Tests.{cases}
 use Rattle.plan.specs.declared.plan.Plan.{Plan}
@@ -20,7 +21,7 @@ use Rattle.plan.specs.Values.{default}
 use Rattle.protocol.specs.Nodes.{nodes, inner, sent, due, frame}
 use Rattle.protocol.proofs.Rules.{detectG-joined, detectG-kept}
 use Rattle.protocol.specs.Detection.{Scan, maskBoard, byCell, passes, detectG, detectAllG}
-use Rattle.protocol.specs.Rounds.{boardWith, fill, fillMissing, copyOwn, gather}
+use Rattle.protocol.specs.Rounds.{boardOf, fill, fillMissing, copyOwn, gather}
 use Rattle.protocol.proofs.Nodes.{inner-inv, node-label, node-length, sent-node}
 use Rattle.protocol.proofs.Fill.{IsLabel, fill-length, fill-other}
 use Rattle.protocol.proofs.Turns.{taken-stays}
@@ -124,17 +125,17 @@ module _ (r : Record) (l : r .plan .dealer < r .plan .n) (low : 1 ≤ r .round .
   own-length cells =
       fill-length (r .plan) l (r .board) (sent (r .plan) (r .board) (r .board) (r .round)) (frame (r .plan) (r .board) (r .board) (r .round) cells) cells
 
-  pub gather-outside : (cells : List ℕ) → SameOutside (r .plan) l (r .board) (r .round .0) cells (gather (boardWith r cells) .cells)
+  pub gather-outside : (w : Width) (cells : List ℕ) → SameOutside (r .plan) l (r .board) (r .round .0) cells (gather (boardOf w r cells) .cells)
   unfolding gather
-  gather-outside cells b γ m out =
+  gather-outside w cells b γ m out =
       let filled = fillMissing (r .plan) (r .board) (r .round) (r .marks) (r .plan .n) cells in
       detect-outside (r .plan) l (r .board) (r .run) (r .round) (r .round .0) (inner (r .plan) (r .board) (r .round .0 - 1))
       (record { list = r .list; cells = copyOwn (r .plan) (r .board) (r .round) filled }) (λ _ w. w) low b γ m out
       ∙ own-outside filled b γ m out ∙ missing-outside (r .plan .n) cells (omega arith) b γ m out
 
-  pub gather-length : (cells : List ℕ) → length (gather (boardWith r cells) .cells) ≡ length cells
+  pub gather-length : (w : Width) (cells : List ℕ) → length (gather (boardOf w r cells) .cells) ≡ length cells
   unfolding gather
-  gather-length cells =
+  gather-length w cells =
       let filled = fillMissing (r .plan) (r .board) (r .round) (r .marks) (r .plan .n) cells in
       detect-length (r .plan) l (r .board) (r .run) (r .round) (r .round .0) (inner (r .plan) (r .board) (r .round .0 - 1))
       (record { list = r .list; cells = copyOwn (r .plan) (r .board) (r .round) filled }) (λ _ w. w) low

@@ -11,7 +11,7 @@ use Rattle.sets.proofs.Tests.{cases}
 use Rattle.schedule.specs.Schedule.{rounds, steps, stepRun, stepRound}
 use Rattle.protocol.specs.declared.records.Record.{Record}
 use Rattle.protocol.specs.Records.{runEnded}
-use Rattle.protocol.specs.Rounds.{boardWith, Board, nextRound, convert, close}
+use Rattle.protocol.specs.Rounds.{onto, Board, nextRound, convert, close}
 use Rattle.protocol.specs.Calls.{freshRecord, frameOf}
 use Rattle.protocol.specs.Session.{Adversary, Setting, at, takeAll, keeper, Sound}
 use Rattle.protocol.proofs.Judgement.{Good, Open, open-taken}
@@ -51,20 +51,18 @@ module _ (s : Setting) (a : Adversary) (sound : Sound s) where
       let cells = at s a j i .cells in
       let msg = told s a i j in
       let g : Good r = subst Good (st .shape) (st .good) in
-      let is : at s a j i ≡ boardWith r cells = ap (λ (x : Record). board-of x cells) (st .shape) in
-      subst (MidStep s a j i) (sym (hear-shape r g refl msg cells (st .room) (at s a j i) is q h))
+      let here = at s a j i in
+      let is : here ≡ onto here r cells = ap (λ (x : Record). onto here x cells) (st .shape) in
+      subst (MidStep s a j i) (sym (hear-shape (here .width) r g refl msg cells (st .room) (at s a j i) is q h))
       (record {
-        opened = heard-open r g refl msg cells (st .room) q h;
+        opened = heard-open (here .width) r g refl msg cells (st .room) q h;
         plan = refl;
         board = refl;
         run = refl;
         round = refl;
-        size = heard-length r g refl msg cells (st .room) q;
-        sends = part-frame r g refl cells (st .room) msg q h ∙ ap frameOf (sym is);
+        size = heard-length r g msg cells q;
+        sends = part-frame (here .width) r g refl cells (st .room) msg q h ∙ ap frameOf (sym is);
       })
-    where
-      board-of : Record → List ℕ → Board
-      board-of x c = boardWith x c
 
   at-close : (j i : ℕ) → keeper s i ≡ true → suc j ≤ steps (s .plan) → at s a (suc j) i ≡ close (takeAll (told s a i j) (at s a j i) (s .plan .n))
   at-close j i k l =
@@ -76,7 +74,7 @@ module _ (s : Setting) (a : Adversary) (sound : Sound s) where
   pub cells-kept : (j i : ℕ) → keeper s i ≡ true → j ≤ steps (s .plan) → length (at s a j i .cells) ≡ length (s .buffer i)
   cells-kept zero i k l =
       ap (λ (b : Board). length (b .cells)) (at-start s a i (keeper-facts s a sound i k .0) ∙ begun-shape s a sound i k)
-      ∙ begun-length (s .plan .n) (s .buffer i) (sound .cells-enough i k)
+      ∙ begun-length (s .width) (s .plan .n) (s .buffer i) (sound .cells-enough i k)
   cells-kept (suc j) i k l =
       let h = part-heard j i (s .plan .n) k (omega arith) (omega arith) in
       ap (λ (x : Board). length (x .cells)) (at-close j i k l) ∙ close-length _ (h .opened) ∙ h .size ∙ cells-kept j i k (omega arith)

@@ -10,6 +10,7 @@ use lib.Dec.{eqb, ltb}
 use lib.ListN.{length, getD, drop, replicate, length-append, length-replicate, length-drop, getD-replicate, List·getD-append}
 use lib.Pow.{pow-pos}
 use borrow.Author.Tests.{eqb-false, ltb-true}
+use Rattle.codec.specs.Codec.{Width, blank}
 use Rattle.sets.specs.Sets.{member, insert}
 use Rattle.sets.proofs.Tests.{cases, clash, or-l, or-r}
 use Rattle.sets.proofs.Member.{member-insert}
@@ -21,13 +22,13 @@ use Rattle.schedule.proofs.Levels.{rounds-pos, runs-pos}
 use Rattle.schedule.proofs.Steps.{later-rounds}
 use Rattle.tree.specs.Labels.{Label, last}
 use Rattle.tree.specs.Places.{cellCount, place}
-use Rattle.tree.specs.Cells.{blank, cellAt}
+use Rattle.tree.specs.Cells.{cellAt}
 use Rattle.tree.proofs.Labels.{label-length, no-label, root-inv, root-has}
 use Rattle.tree.proofs.Places.{place-lt, some-cell, place-levels}
 use Rattle.protocol.specs.Nodes.{nodes, sent}
 use Rattle.protocol.specs.Detection.{Scan, resolveRoot}
 use Rattle.protocol.specs.Records.{runEnded}
-use Rattle.protocol.specs.Rounds.{boardWith, Board, counted, receive, gather, nextRound, convert, close, rootOnly, cleared}
+use Rattle.protocol.specs.Rounds.{boardOf, Board, counted, receive, gather, nextRound, convert, close, rootOnly, cleared}
 use Rattle.protocol.specs.Calls.{isTaken, judgeBoard, judgeCells, judgeOpen, judgeBeginning, beginning, freshRecord, judgeReceiving, taking, closing}
 use Rattle.protocol.proofs.Nodes.{sent-node, node-label, node-length, root-node}
 use Rattle.protocol.proofs.Fill.{IsLabel, fill-other, fill-length}
@@ -146,13 +147,13 @@ NoValue b k α =
 -- 01: "A place with no value yet, or no node, holds FF".
 abbrev pub Vacant : Board → Type 0
 Vacant b = (l : b .rec .plan .dealer < b .rec .plan .n) (k : ℕ) (α : Label) → IsLabel (b .rec .plan) l k α → NoValue b k α
-    → cellAt (b .rec .plan .n) (b .cells) α ≡ blank
+    → cellAt (b .rec .plan .n) (b .cells) α ≡ blank (b .width)
 
-pub fresh-vacant : (p : Plan) (i : ℕ) (cells : List ℕ)
-    → Vacant (boardWith (freshRecord p i) (cleared (p .n) cells))
+pub fresh-vacant : (w : Width) (p : Plan) (i : ℕ) (cells : List ℕ)
+    → Vacant (boardOf w (freshRecord p i) (cleared w (p .n) cells))
 unfolding cellAt freshRecord
-fresh-vacant p i cells l k α m v =
-    begun-blank (p .n) cells (place (p .n) α) (place-lt (p .n) (p .dealer) k α l m)
+fresh-vacant w p i cells l k α m v =
+    begun-blank w (p .n) cells (place (p .n) α) (place-lt (p .n) (p .dealer) k α l m)
 
 -- A label of level k is no node of another level.
 pub other-level : (p : Plan) (l : p .dealer < p .n) (i k a : ℕ) (α : Label) → IsLabel p l k α → List·Memᴰ α (nodes p i a) → k ≡ a
@@ -211,7 +212,7 @@ next-vacant b o h l k α m v =
     let r = b .rec in
     let low = o .good .position .round-low in
     let same : (List·Memᴰ α (nodes (r .plan) (r .board) (r .round .0)) → ⊥) → cellAt (r .plan .n) (gather b .cells) α ≡ cellAt (r .plan .n) (b .cells) α =
-    gather-outside r l low (o .good .below) (b .cells) k α m in
+    gather-outside r l low (o .good .below) (b .width) (b .cells) k α m in
     ⊎-elim
     (λ out. same (λ w. out (subst (λ z. List·Memᴰ α (nodes (r .plan) (r .board) z)) (sym (other-level (r .plan) l (r .board) k (r .round .0) α m w)) w))
     ∙ h l k α m (inl out))
@@ -224,19 +225,19 @@ next-vacant b o h l k α m v =
     v
 
 -- Conversion leaves the root alone.
-pub root-only : (p : Plan) (l : p .dealer < p .n) (root : ℕ) (cells : List ℕ) (k : ℕ) (α : Label) → IsLabel p l (suc (suc k)) α
-    → cellAt (p .n) (rootOnly (p .n) root cells) α ≡ blank
+pub root-only : (w : Width) (p : Plan) (l : p .dealer < p .n) (root : ℕ) (cells : List ℕ) (k : ℕ) (α : Label) → IsLabel p l (suc (suc k)) α
+    → cellAt (p .n) (rootOnly w (p .n) root cells) α ≡ blank w
 unfolding cellAt rootOnly
-root-only p l root cells k α m =
+root-only w p l root cells k α m =
     let n = p .n in
     let x = place n α in
     let low : 0 < x = let z = place-levels n (p .dealer) 1 (suc (suc k)) (p .dealer ∷ []) α l (root-has n (p .dealer)) m (omega arith) in omega arith in
     let high = place-lt n (p .dealer) (suc (suc k)) α l m in
     let j : x ≡ suc (x - 1) = omega arith in
-    let size = length-replicate (cellCount n - 1) blank in
-    List·getD-append (root ∷ replicate (cellCount n - 1) blank) (drop (cellCount n) cells) blank x (omega (arith, size))
-    ∙ ap (λ y. getD (root ∷ replicate (cellCount n - 1) blank) y blank) j
-    ∙ getD-replicate (cellCount n - 1) (x - 1) blank blank (omega arith)
+    let size = length-replicate (cellCount n - 1) (blank w) in
+    List·getD-append (root ∷ replicate (cellCount n - 1) (blank w)) (drop (cellCount n) cells) 0 x (omega (arith, size))
+    ∙ ap (λ y. getD (root ∷ replicate (cellCount n - 1) (blank w)) y 0) j
+    ∙ getD-replicate (cellCount n - 1) (x - 1) (blank w) 0 (omega arith)
 
 pub convert-vacant : (b : Board) (s : Scan) → Vacant (convert b s)
 unfolding convert runEnded
@@ -255,7 +256,7 @@ convert-vacant b s l (suc zero) α m v =
     (λ d. let y : 1 < 1 = d .1 in omega arith)
     w)
     v)
-convert-vacant b s l (suc (suc k)) α m v = root-only (b .rec .plan) l (resolveRoot (b .rec .plan) (b .rec .board) (s .cells)) (s .cells) k α m
+convert-vacant b s l (suc (suc k)) α m v = root-only (b .width) (b .rec .plan) l (resolveRoot (b .rec .plan) (b .rec .board) (s .cells)) (s .cells) k α m
 
 pub close-vacant : (b : Board) → Open b → Vacant b → Vacant (close b)
 unfolding close
@@ -272,13 +273,13 @@ receive-length q f b o =
     let αs = sent (r .plan) q (r .board) (r .round) in
     fill-length (r .plan) (good-dealer r (o .good)) q αs (counted (r .list) q αs f) (b .cells)
 
-pub root-only-length : (n root : ℕ) (cells : List ℕ) → 0 < cellCount n → cellCount n ≤ length cells → length (rootOnly n root cells) ≡ length cells
+pub root-only-length : (w : Width) (n root : ℕ) (cells : List ℕ) → 0 < cellCount n → cellCount n ≤ length cells → length (rootOnly w n root cells) ≡ length cells
 unfolding rootOnly
-root-only-length n root cells z h =
+root-only-length w n root cells z h =
     omega (
       arith,
-      length-append (root ∷ replicate (cellCount n - 1) blank) (drop (cellCount n) cells),
-      length-replicate (cellCount n - 1) blank,
+      length-append (root ∷ replicate (cellCount n - 1) (blank w)) (drop (cellCount n) cells),
+      length-replicate (cellCount n - 1) (blank w),
       length-drop (cellCount n) cells,
     )
 
@@ -288,10 +289,10 @@ close-length b o =
     let r = b .rec in
     let p = r .plan in
     let l = good-dealer r (o .good) in
-    let g = gather-length r l (o .good .position .round-low) (o .good .below) (b .cells) in
+    let g = gather-length r l (o .good .position .round-low) (o .good .below) (b .width) (b .cells) in
     cases (ltb (r .round .0) (rounds p .0))
     (λ e. rw e g)
-    (λ e. rw e (root-only-length (p .n) (resolveRoot p (r .board) (gather b .cells)) (gather b .cells) (some-cell (p .n) (p .dealer) l) (rw g (o .room)) ∙ g))
+    (λ e. rw e (root-only-length (b .width) (p .n) (resolveRoot p (r .board) (gather b .cells)) (gather b .cells) (some-cell (p .n) (p .dealer) l) (rw g (o .room)) ∙ g))
 
 -- A board that was begun, and then called in any way.
 pub record Reached (b : Board) : Type 0 where
@@ -329,15 +330,15 @@ reached-closing b h =
     }))
     (λ e. rw (closing-refused b e) h)
 
-pub reached-begun : (p : Plan) (i : ℕ) (cells : List ℕ) → judgeBeginning p i cells .number ≡ 0 → Reached (beginning p i cells .board)
+pub reached-begun : (w : Width) (p : Plan) (i : ℕ) (cells : List ℕ) → judgeBeginning p i cells .number ≡ 0 → Reached (beginning w p i cells .board)
 unfolding beginning judgeBeginning freshRecord
-reached-begun p i cells e =
+reached-begun w p i cells e =
     let (e1, e2) = both-taken (judged p) _ e in
     let (e3, e4) = both-taken (judgeBoard p i) (judgeCells p cells) e2 in
     let (l, ne) = board-facts p i e3 in
     let room = cells-facts p cells e4 in
     rw (taken-is (judgeBeginning p i cells) e) (record {
       good = fresh-good p i e1 l ne;
-      room = rw (begun-length (p .n) cells room) room;
-      vacant = fresh-vacant p i cells;
+      room = rw (begun-length w (p .n) cells room) room;
+      vacant = fresh-vacant w p i cells;
     })

@@ -25,7 +25,7 @@ use Rattle.tree.specs.Places.{cellCount}
 use Rattle.protocol.specs.declared.records.Slot.{Slot}
 use Rattle.protocol.specs.declared.records.Record.{Record}
 use Rattle.protocol.specs.Records.{standingAt, runEnded, withMarks}
-use Rattle.protocol.specs.Rounds.{boardWith, Board, gather, nextRound, convert, close, cleared}
+use Rattle.protocol.specs.Rounds.{boardOf, onto, Board, gather, nextRound, convert, close, cleared}
 use Rattle.protocol.specs.Calls.{judgeBoard, judgeBeginning, freshRecord, beginning, closing}
 use Rattle.sets.proofs.Tabulated.{tabulate-at}
 use Rattle.protocol.specs.Session.{Adversary, Setting, Boards, nobody, boardAt, begun, hears, hearAll, session, at, takeAll, keeper, Sound}
@@ -129,7 +129,7 @@ module _ (s : Setting) (a : Adversary) (sound : Sound s) where
 
   -- Board i as its beginning left it.
   pub begun-shape : (i : ℕ) → keeper s i ≡ true
-      → begun s i ≡ boardWith (freshRecord plan i) (cleared (plan .n) (s .buffer i))
+      → begun s i ≡ boardOf (s .width) (freshRecord plan i) (cleared (s .width) (plan .n) (s .buffer i))
   unfolding begun beginning
   begun-shape i k = rw (taken-is (judgeBeginning plan i (s .buffer i)) (begins i k))
 
@@ -153,14 +153,14 @@ module _ (s : Setting) (a : Adversary) (sound : Sound s) where
   standing-start i k =
       let (l, _, ne) = keeper-facts i k in
       let e = at-start s a i l ∙ begun-shape i k in
-      let cells = cleared (plan .n) (s .buffer i) in
-      let b : Board = boardWith (freshRecord plan i) cells in
+      let cells = cleared (s .width) (plan .n) (s .buffer i) in
+      let b : Board = boardOf (s .width) (freshRecord plan i) cells in
       record {
         shape = subst (λ x. x .rec ≡ canon i 0 (x .rec .list)) (sym e)
             (ap₂ (λ (t : Run) (q : Round). standingAt plan i t q (freshRecord plan i .list)) (sym (first-position .0)) (sym (first-position .1)));
         good = subst (λ x. Good (x .rec)) (sym e) (fresh-good plan i (sound .accepted) l ne);
         room = subst (λ x. cellCount (plan .n) ≤ length (x .cells)) (sym e)
-            (rw (begun-length (plan .n) (s .buffer i) (sound .cells-enough i k)) (sound .cells-enough i k));
+            (rw (begun-length (s .width) (plan .n) (s .buffer i) (sound .cells-enough i k)) (sound .cells-enough i k));
       }
 
   -- The board in step j when it has heard all frames.
@@ -176,18 +176,15 @@ module _ (s : Setting) (a : Adversary) (sound : Sound s) where
 
     -- The record with its marks, and the cells, as closing begins.
     abbrev pub ready : Board
-    ready = boardWith (withMarks r (marks (r .plan) (r .board) (r .round) (r .list) (told s a i j) (plan .n))) (heardCells (r .plan) (r .board) (r .round) (r .list) (told s a i j) cells (plan .n))
+    ready = onto (at s a j i) (withMarks r (marks (r .plan) (r .board) (r .round) (r .list) (told s a i j) (plan .n))) (heardCells (r .plan) (r .board) (r .round) (r .list) (told s a i j) cells (plan .n))
 
     pub ready-open : Open ready
-    ready-open = heard-open r good-r refl (told s a i j) cells (st .room) (plan .n) (omega arith)
+    ready-open = heard-open (at s a j i .width) r good-r refl (told s a i j) cells (st .room) (plan .n) (omega arith)
 
     pub heard-all : takeAll (told s a i j) (at s a j i) (plan .n) ≡ ready
     heard-all =
-        hear-shape r good-r refl (told s a i j) cells (st .room) (at s a j i)
-        (ap (λ x. board-of x cells) (st .shape)) (plan .n) (omega arith)
-      where
-        board-of : Record → List ℕ → Board
-        board-of x c = boardWith x c
+        hear-shape (at s a j i .width) r good-r refl (told s a i j) cells (st .room) (at s a j i)
+        (ap (λ (x : Record). onto (at s a j i) x cells) (st .shape)) (plan .n) (omega arith)
 
     pub after-step : at s a (suc j) i ≡ close ready
     after-step =
