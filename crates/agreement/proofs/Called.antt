@@ -2,15 +2,17 @@
 -- node, holds FF.
 -- Assumes nothing.
 use Prim.Native.Nat.{ℕ}
-use mathlib.Core.Path.{_≡_, refl}
+use mathlib.Core.Path.{_≡_, refl, _∙_}
 use mathlib.Core.List.{List, [], _∷_, _++_}
-use lib.Dec.{eqb}
+use lib.Dec.{eqb, ltb}
 use Rattle.codec.specs.Codec.{decode}
 use Rattle.sets.proofs.Tests.{cases}
-use Rattle.protocol.specs.Rounds.{Board}
-use Rattle.protocol.specs.Calls.{receiving}
+use Rattle.schedule.specs.Schedule.{rounds}
+use Rattle.protocol.specs.Rounds.{Board, receive, nextRound, convert, close}
+use Rattle.protocol.specs.Calls.{isTaken, judgeOpen, judgeBeginning, beginning, judgeReceiving, taking, receiving, closing}
+use Rattle.protocol.specs.Session.{Setting, begun}
 use Rattle.synchronous.proofs.Reached.{Reached, reached-taking, reached-closing}
-use Rattle.agreement.specs.Lists.{Call, receives, sends, closes, decides, leaves, caller, World, afterOne, after}
+use Rattle.agreement.specs.Lists.{Call, receives, sends, closes, decides, leaves, caller, World, afterOne, after, state}
 
 pub after-append : (w : World) (before rest : List Call) → after w (before ++ rest) ≡ after (after w before) rest
 unfolding after
@@ -29,10 +31,37 @@ module _ (P : Board → Type 0) (keeps : (c : Call) (b : Board) → P b → P (l
 
 pub reached-leaves : (c : Call) (b : Board) → Reached b → Reached (leaves c b)
 unfolding leaves receiving
-reached-leaves (receives j q f) b h = reached-taking b q (decode f) h
+reached-leaves (receives j q f) b h = reached-taking b q (decode (b .width) f) h
 reached-leaves (sends j out) b h = h
 reached-leaves (closes j) b h = reached-closing b h
 reached-leaves (decides j) b h = h
 
 pub reached-after : (calls : List Call) (w : World) (i : ℕ) → Reached (w i) → Reached (after w calls i)
 reached-after = after-keeps Reached reached-leaves
+
+-- A board keeps its width.
+pub taking-width : (b : Board) (q : ℕ) (vs : List ℕ) → taking b q vs .board .width ≡ b .width
+unfolding taking receive
+taking-width b q vs = cases (isTaken (judgeReceiving b q)) (λ e. rw e) (λ e. rw e)
+
+pub closing-width : (b : Board) → closing b .board .width ≡ b .width
+unfolding closing close nextRound convert
+closing-width b =
+    cases (isTaken (judgeOpen b))
+    (λ e. rw e (cases (ltb (b .rec .round .0) (rounds (b .rec .plan) .0)) (λ l. rw l) (λ l. rw l)))
+    (λ e. rw e)
+
+pub leaves-width : (c : Call) (b : Board) → leaves c b .width ≡ b .width
+unfolding leaves receiving
+leaves-width (receives j q f) b = taking-width b q (decode (b .width) f)
+leaves-width (sends j out) b = refl
+leaves-width (closes j) b = closing-width b
+leaves-width (decides j) b = refl
+
+pub begun-width : (s : Setting) (i : ℕ) → begun s i .width ≡ s .width
+unfolding begun beginning
+begun-width s i = cases (isTaken (judgeBeginning (s .plan) i (s .buffer i))) (λ e. rw e) (λ e. rw e)
+
+pub state-width : (s : Setting) (calls : List Call) (i : ℕ) → state s calls i .width ≡ s .width
+unfolding state
+state-width s calls i = after-keeps (λ b. b .width ≡ s .width) (λ c b h. leaves-width c b ∙ h) calls (begun s) i (begun-width s i)

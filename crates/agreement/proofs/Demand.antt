@@ -28,7 +28,6 @@ use Rattle.heights.specs.Levels.{depthOf, isCut}
 use Rattle.schedule.specs.Schedule.{rounds, runs, steps, stepRun}
 use Rattle.schedule.specs.Schedule as S
 use Rattle.schedule.proofs.Steps.{step-has, step-of-round}
-use Rattle.tree.specs.Cells.{blank}
 use Rattle.protocol.specs.declared.records.Record.{Record}
 use Rattle.protocol.specs.declared.records.Slot.{Slot}
 use Rattle.protocol.specs.Listing.{asSet}
@@ -104,7 +103,7 @@ module _ (s : Setting) (calls : List Call) (sound : Sound s) (fair : Fair s call
         let ok : judgeBeginning plan i (s .buffer i) .number ≡ 0 =
         ap (λ (o : Outcome). o .number) (taken-first (judged plan) _ (sound .accepted) ∙ taken-first (judgeBoard plan i) _ (ap (λ (o : Outcome). o .number) (board-taken plan i l ne))
         ∙ cells-taken plan (s .buffer i) (sound .cells-enough i ki)) in
-        reached-after before (begun s) i (reached-begun plan i (s .buffer i) ok) .good
+        reached-after before (begun s) i (reached-begun (s .width) plan i (s .buffer i) ok) .good
 
     readable-there : state s before i .rec .decided ≡ true → deciding (state s before i .rec) ≡ taken (state s before i .rec .decision ∷ [])
     unfolding deciding andThen
@@ -177,8 +176,8 @@ module _ (s : Setting) (calls : List Call) (sound : Sound s) (fair : Fair s call
     root-is : root s i before ≡ rootAfter s faulty t i
     unfolding root rootAfter ended
     root-is =
-        ap (λ (b : Board). getD (b .cells) 0 blank) (sym (closed-state s i before)) ∙ is .root (omega (arith, one-more))
-        ∙ ap (λ m. getD (at s faulty m i .cells) 0 blank) (one-more ∙ step-is)
+        ap (λ (b : Board). getD (b .cells) 0 0) (sym (closed-state s i before)) ∙ is .root (omega (arith, one-more))
+        ∙ ap (λ m. getD (at s faulty m i .cells) 0 0) (one-more ∙ step-is)
 
     list-is : list s i before ≡ listEnded s faulty t i
     unfolding list listAfter listEnded ended
@@ -210,7 +209,7 @@ module _ (s : Setting) (calls : List Call) (sound : Sound s) (fair : Fair s call
 
   -- While an undecided board stands in run t + 1, its first cell is its root after run t.
   first-cell : (t i : ℕ) (before : List Call) → keeper s i ≡ true → Prefix before calls → 1 ≤ t
-      → state s before i .rec .decided ≡ false → state s before i .rec .run .0 ≡ t + 1 → getD (state s before i .cells) 0 blank ≡ rootAfter s faulty t i
+      → state s before i .rec .decided ≡ false → state s before i .rec .run .0 ≡ t + 1 → getD (state s before i .cells) 0 0 ≡ rootAfter s faulty t i
   first-cell t i before ki pre low-t undecided in-run =
       let there = here before pre i ki in
       let j = closings (begun s) i before in

@@ -142,17 +142,17 @@ writes-written s before i q f earlier (decides j) st e = clash e refl
 -- The frame that board q, outside F, sent.
 unfoldable pub truthful : Setting → List Call → ℕ → ℕ → List ℕ → Bool
 truthful s before i q f =
-    let dealt = sameList f (dealing (s .plan) (s .word) .values) in
+    let dealt = sameList f (dealing (s .width) (s .plan) (s .word) .values) in
     let written = somewhere (writes s before i q f) [] before in
     cond (eqb q (s .plan .dealer)) dealt written
 
 pub truthful-sent : (s : Setting) (before : List Call) (i q : ℕ) (f : List ℕ) → truthful s before i q f ≡ true → AsSent s before i q f
 unfolding truthful
 truthful-sent s before i q f told =
-    let dealt = sameList f (dealing (s .plan) (s .word) .values) in
+    let dealt = sameList f (dealing (s .width) (s .plan) (s .word) .values) in
     let written = somewhere (writes s before i q f) [] before in
     record {
-      dealt = λ is. same-list f (dealing (s .plan) (s .word) .values) (sym (ap (λ x. cond x dealt written) (eq-eqb q (s .plan .dealer) is)) ∙ told);
+      dealt = λ is. same-list f (dealing (s .width) (s .plan) (s .word) .values) (sym (ap (λ x. cond x dealt written) (eq-eqb q (s .plan .dealer) is)) ∙ told);
       written = λ other.
           let p = somewhere-at (writes s before i q f) [] before (sym (ap (λ x. cond x dealt written) (ne-eqb q (s .plan .dealer) other)) ∙ told) in
           writes-written s before i q f (p .before) (p .call) (p .stands) (p .passes);

@@ -26,11 +26,10 @@ use Rattle.schedule.specs.Schedule.{steps, stepRun, stepRound}
 use Rattle.schedule.specs.Schedule as S
 use Rattle.schedule.proofs.Levels.{rounds-pos}
 use Rattle.schedule.proofs.Steps.{step-of-round}
-use Rattle.tree.specs.Cells.{blank}
 use Rattle.protocol.specs.declared.records.Record.{Record}
 use Rattle.protocol.specs.Records.{withMarks}
 use Rattle.protocol.specs.Nodes.{sent, due}
-use Rattle.protocol.specs.Rounds.{boardWith, Board, counted, receive}
+use Rattle.protocol.specs.Rounds.{onto, Board, counted, receive}
 use Rattle.protocol.specs.Calls.{isTaken, judgeOpen, judgeReceiving, taking, receiving, frameOf, wireOf, sending, closing, dealing}
 use Rattle.protocol.specs.Session.{Adversary, Setting, begun, hears, at, keeper, Sound}
 use Rattle.protocol.proofs.Judgement.{is-taken, taken-is, Good, Open, open-facts}
@@ -44,6 +43,7 @@ use Rattle.agreement.proofs.Healthy.{is-keeper}
 use Rattle.agreement.proofs.Reduction.{Entry, Letter, Boards, Session, Laws}
 use Rattle.agreement.proofs.Reduction as R
 use Rattle.agreement.proofs.Session.{synchronous}
+use Rattle.agreement.proofs.Called.{state-width}
 
 -- The boards
 
@@ -52,7 +52,7 @@ stepOf : Plan → Board → ℕ
 stepOf p b = S.step p (b .rec .run) (b .rec .round) - 1
 
 takesOf : Plan → Call → Board → Option (Entry (List ℕ))
-takesOf p (receives i q f) b = cond (isTaken (judgeReceiving b q)) (some (record { sender = q; step = stepOf p b; frame = decode f })) none
+takesOf p (receives i q f) b = cond (isTaken (judgeReceiving b q)) (some (record { sender = q; step = stepOf p b; frame = decode (b .width) f })) none
 takesOf p (sends i out) b = none
 takesOf p (closes i) b = none
 takesOf p (decides i) b = none
@@ -78,15 +78,15 @@ takes-facts p (receives i q f) b e h =
     cases (isTaken (judgeReceiving b q))
     (λ x. let t = is-taken (judgeReceiving b q) x in
     let z = Option·some-injective _ _ (rw x at h) in
-    subst (λ (e : Entry (List ℕ)). (judgeReceiving b (e .sender) .number ≡ 0) × (e .step ≡ stepOf p b) × (taking b q (decode f) .board ≡ receive (e .sender) (e .frame) b)) z
-    (t, refl, taking-taken b q (decode f) t))
+    subst (λ (e : Entry (List ℕ)). (judgeReceiving b (e .sender) .number ≡ 0) × (e .step ≡ stepOf p b) × (taking b q (decode (b .width) f) .board ≡ receive (e .sender) (e .frame) b)) z
+    (t, refl, taking-taken b q (decode (b .width) f) t))
     (λ x. absurd (Option·none-ne-some e (rw x at h)))
 takes-facts p (sends i out) b e h = absurd (Option·none-ne-some e h)
 takes-facts p (closes i) b e h = absurd (Option·none-ne-some e h)
 takes-facts p (decides i) b e h = absurd (Option·none-ne-some e h)
 
 taken-takes : (p : Plan) (i q : ℕ) (f : List ℕ) (b : Board) → receiving b q f .answer .number ≡ 0
-    → takesOf p (receives i q f) b ≡ some (record { sender = q; step = stepOf p b; frame = decode f })
+    → takesOf p (receives i q f) b ≡ some (record { sender = q; step = stepOf p b; frame = decode (b .width) f })
 unfolding takesOf receiving taking
 taken-takes p i q f b e = rw (taken-is (judgeReceiving b q) e)
 
@@ -118,7 +118,7 @@ ends-facts (decides i) b e = clash e refl
 idle-call : (p : Plan) (c : Call) (b : Board) → takesOf p c b ≡ none → endsOf c b ≡ false → leaves c b ≡ b
 unfolding takesOf endsOf isClosing answers leaves receiving
 idle-call p (receives i q f) b n e =
-    cases (isTaken (judgeReceiving b q)) (λ x. absurd (Option·none-ne-some _ (sym (rw x at n)))) (λ x. taking-refused b q (decode f) x)
+    cases (isTaken (judgeReceiving b q)) (λ x. absurd (Option·none-ne-some _ (sym (rw x at n)))) (λ x. taking-refused b q (decode (b .width) f) x)
 idle-call p (sends i out) b n e = refl
 idle-call p (closes i) b n e =
     closing-refused b (is-false (isTaken (judgeOpen b)) (λ t. clash (taken-is (closing b .answer) (open-closing b (is-taken (judgeOpen b) t))) e))
@@ -185,7 +185,7 @@ module _ (s : Setting) (a : Adversary) (sound : Sound s) where
   abbrev hearing : ℕ → ℕ → (ℕ → Option (List ℕ)) → Board
   hearing j i msg =
       let r = recAt j i in
-      boardWith (withMarks r (marks (r .plan) (r .board) (r .round) (r .list) msg (plan .n)))
+      onto (base j i) (withMarks r (marks (r .plan) (r .board) (r .round) (r .list) msg (plan .n)))
       (heardCells (r .plan) (r .board) (r .round) (r .list) msg (base j i .cells) (plan .n))
 
   -- A step that is not yet closed.
@@ -196,18 +196,18 @@ module _ (s : Setting) (a : Adversary) (sound : Sound s) where
     rec-good : Good (recAt j i)
     rec-good = subst Good (st .shape) (st .good)
 
-    base-is : base j i ≡ boardWith (recAt j i) (base j i .cells)
-    base-is = ap (λ r. boardWith r (base j i .cells)) (st .shape)
+    base-is : base j i ≡ onto (base j i) (recAt j i) (base j i .cells)
+    base-is = ap (λ (r : Record). onto (base j i) r (base j i .cells)) (st .shape)
 
     hearing-open : (msg : ℕ → Option (List ℕ)) → Open (hearing j i msg)
-    hearing-open msg = heard-open (recAt j i) rec-good refl msg (base j i .cells) (st .room) (plan .n) (omega arith)
+    hearing-open msg = heard-open (base j i .width) (recAt j i) rec-good refl msg (base j i .cells) (st .room) (plan .n) (omega arith)
 
     -- Only due frames matter.
     hearing-same : (msg msg′ : ℕ → Option (List ℕ)) → ((q : ℕ) → due plan q i (stepRound plan (suc j)) ≡ true → msg q ≡ msg′ q)
         → hearing j i msg ≡ hearing j i msg′
     unfolding accepts content
     hearing-same msg msg′ h =
-        heard-same (recAt j i) rec-good refl (base j i .cells) (st .room) msg msg′
+        heard-same (base j i .width) (recAt j i) rec-good refl (base j i .cells) (st .room) msg msg′
         (λ q lq. cases (due plan q i (stepRound plan (suc j)))
         (λ d. ap (λ o. due plan q i (stepRound plan (suc j)) && isGiven o) (h q d))
         (λ d. rw d refl))
@@ -217,32 +217,32 @@ module _ (s : Setting) (a : Adversary) (sound : Sound s) where
     -- A frame more: it is due, and the first of its sender.
     hearing-taken : (msg : ℕ → Option (List ℕ)) (q : ℕ) → judgeReceiving (hearing j i msg) q .number ≡ 0
         → (q < plan .n) × (due plan q i (stepRound plan (suc j)) ≡ true) × (msg q ≡ none)
-    hearing-taken msg q e = heard-taken (recAt j i) rec-good refl (base j i .cells) (st .room) msg q e
+    hearing-taken msg q e = heard-taken (base j i .width) (recAt j i) rec-good refl (base j i .cells) (st .room) msg q e
 
     hearing-more : (msg : ℕ → Option (List ℕ)) (q : ℕ) (f : List ℕ) → judgeReceiving (hearing j i msg) q .number ≡ 0
         → receive q f (hearing j i msg) ≡ hearing j i (update msg q f)
     hearing-more msg q f e =
         let (lq, d, free) = hearing-taken msg q e in
-        heard-more (recAt j i) rec-good refl (base j i .cells) (st .room) msg q f lq d free
+        heard-more (base j i .width) (recAt j i) rec-good refl (base j i .cells) (st .room) msg q f lq d free
 
     hearing-nothing : (msg : ℕ → Option (List ℕ)) → ((q : ℕ) → msg q ≡ none) → hearing j i msg ≡ base j i
-    hearing-nothing msg h = heard-none (recAt j i) rec-good refl (base j i .cells) (st .room) msg (λ q _. h q) ∙ sym base-is
+    hearing-nothing msg h = heard-none (base j i .width) (recAt j i) rec-good refl (base j i .cells) (st .room) msg (λ q _. h q) ∙ sym base-is
 
     -- A board that has heard what the session tells it.
     hearing-told : closing (hearing j i (told s a i j)) .board ≡ base (suc j) i
     hearing-told =
         let (li, _, _) = keeper-facts s a sound i ki in
-        ap (λ b. closing b .board) (sym (hear-shape (recAt j i) rec-good refl (told s a i j) (base j i .cells) (st .room) (base j i) base-is (plan .n) (omega arith)))
+        ap (λ b. closing b .board) (sym (hear-shape (base j i .width) (recAt j i) rec-good refl (told s a i j) (base j i .cells) (st .room) (base j i) base-is (plan .n) (omega arith)))
         ∙ sym (at-next s a i j li)
 
     hearing-frame : (msg : ℕ → Option (List ℕ)) → frameOf (hearing j i msg) ≡ frameOf (base j i)
-    hearing-frame msg = heard-frame (recAt j i) rec-good refl (base j i .cells) (st .room) msg ∙ ap frameOf (sym base-is)
+    hearing-frame msg = heard-frame (base j i .width) (recAt j i) rec-good refl (base j i .cells) (st .room) msg ∙ ap frameOf (sym base-is)
 
     -- Past the first step hearing leaves the root alone.
-    hearing-root : (msg : ℕ → Option (List ℕ)) → 0 < j → getD (hearing j i msg .cells) 0 blank ≡ getD (base j i .cells) 0 blank
+    hearing-root : (msg : ℕ → Option (List ℕ)) → 0 < j → getD (hearing j i msg .cells) 0 0 ≡ getD (base j i .cells) 0 0
     unfolding stepRound
     hearing-root msg low =
-        heard-root (recAt j i) rec-good refl (base j i .cells) (st .room) msg (rw (lt-leb (suc j) 1 (omega arith)) (omega arith))
+        heard-root (base j i .width) (recAt j i) rec-good refl (base j i .cells) (st .room) msg (rw (lt-leb (suc j) 1 (omega arith)) (omega arith))
 
   hearing-step : (j i : ℕ) (msg : ℕ → Option (List ℕ)) → j < steps plan → stepOf plan (hearing j i msg) ≡ j
   unfolding stepOf
@@ -328,18 +328,18 @@ module _ (s : Setting) (calls : List Call) (sound : Sound s) (fair : Fair s call
   same-steps q then i now h = ap₂ (λ (t : Run) (k : Round). S.step (s .plan) t k - 1) (h .run) (h .round)
 
   -- The dealer's frame holds its value.
-  dealt-read : member (s .plan .dealer) (s .faulty) ≡ false → decode (dealing (s .plan) (s .word) .values) ≡ s .word ∷ []
+  dealt-read : member (s .plan .dealer) (s .faulty) ≡ false → decode (s .width) (dealing (s .width) (s .plan) (s .word) .values) ≡ s .word ∷ []
   unfolding dealing
   dealt-read f =
       let word : leb (s .plan .span) (s .word) ≡ false = lt-leb (s .plan .span) (s .word) (sound .word-below f) in
-      let judgement = cond (leb (s .plan .span) (s .word)) (refused 18) (taken (encode (s .word ∷ []))) in
+      let judgement = cond (leb (s .plan .span) (s .word)) (refused 18) (taken (encode (s .width) (s .word ∷ []))) in
       let deals : andThen (judged (s .plan)) judgement ≡ judgement = taken-first (judged (s .plan)) judgement (sound .accepted) in
-      let accepted : judgement ≡ taken (encode (s .word ∷ [])) = rw word refl in
-      ap (λ (o : Outcome). decode (o .values)) (deals ∙ accepted) ∙ decode-encode (s .word ∷ [])
+      let accepted : judgement ≡ taken (encode (s .width) (s .word ∷ [])) = rw word refl in
+      ap (λ (o : Outcome). decode (s .width) (o .values)) (deals ∙ accepted) ∙ decode-encode (s .width) (s .word ∷ [])
 
   -- What a writing gave is the frame of its board.
   wrote-it : (before : List Call) (i q j : ℕ) (f : List ℕ) → keeper s q ≡ true → stepOf (s .plan) (state s before i) ≡ j → L.Written s before i q f
-      → R.Written (boards (s .plan)) (begun s) N before i j q (decode f)
+      → R.Written (boards (s .plan)) (begun s) N before i j q (decode (s .width) f)
   unfolding answers wireOf
   wrote-it before i q j f kq ej w =
       let b = state s (w .earlier) q in
@@ -351,7 +351,8 @@ module _ (s : Setting) (calls : List Call) (sound : Sound s) (fair : Fair s call
         stands = w .stands;
         wrote = ap (writesOf (s .plan) (sends q (w .out)) i) (now-is (w .earlier) q) ∙ taken-writes (s .plan) q i (w .out) b (ap (λ (o : Outcome). o .number) (w .wrote));
         in-step = same-steps q (w .earlier) i before (w .same) ∙ ej;
-        gave = ap decode (w .gave ∙ sending-gives b (w .out) (w .size) (w .wrote) .frame) ∙ decode-encode (frameOf b);
+        gave = ap (decode (s .width)) (w .gave ∙ sending-gives b (w .out) (w .size) (w .wrote) .frame ∙ ap (λ x. encode x (frameOf b)) (state-width s (w .earlier) q))
+            ∙ decode-encode (s .width) (frameOf b);
       }
 
   -- A fair list of 01 is fair for the reduction.
@@ -374,16 +375,17 @@ module _ (s : Setting) (calls : List Call) (sound : Sound s) (fair : Fair s call
       record {
         earlier = h .earlier;
         call = receives i q f;
-        entry = record { sender = q; step = stepOf (s .plan) (state s (h .earlier) i); frame = decode f };
+        entry = record { sender = q; step = stepOf (s .plan) (state s (h .earlier) i); frame = decode (s .width) f };
         stands = h .stands;
         own = refl;
-        entered = ap (takesOf (s .plan) (receives i q f)) (now-is (h .earlier) i) ∙ taken-takes (s .plan) i q f (state s (h .earlier) i) (h .taken);
+        entered = ap (takesOf (s .plan) (receives i q f)) (now-is (h .earlier) i) ∙ taken-takes (s .plan) i q f (state s (h .earlier) i) (h .taken)
+            ∙ ap (λ x. some (record { sender = q; step = stepOf (s .plan) (state s (h .earlier) i); frame = decode x f })) (state-width s (h .earlier) i);
         from = refl;
         for = in-step;
         as-sent = cases (eqb q (s .plan .dealer))
             (λ y. let z = eqb-true q (s .plan .dealer) y in
             let word = dealt-read (subst (λ y. member y (s .faulty) ≡ false) z fq) in
-            inl (told-dealer s adversary sound i q j fq z ∙ ap some (sym (ap decode (brought .as-sent .dealt z) ∙ word))))
+            inl (told-dealer s adversary sound i q j fq z ∙ ap some (sym (ap (decode (s .width)) (brought .as-sent .dealt z) ∙ word))))
             (λ y. let ne = eqb-false q (s .plan .dealer) y in
             inr (wrote-it (h .earlier) i q j f (is-keeper s q (due-sender (s .plan) q i (stepRound (s .plan) (suc j)) d) fq ne) in-step (brought .as-sent .written ne)));
       }
@@ -400,7 +402,7 @@ module _ (s : Setting) (calls : List Call) (sound : Sound s) (fair : Fair s call
     pub most : closings (begun s) i before ≤ steps (s .plan)
     pub list : listAfter s before i ≡ at s adversary (closings (begun s) i before) i .rec .list
     -- past the first step
-    pub root : 0 < closings (begun s) i before → getD (state s before i .cells) 0 blank ≡ getD (at s adversary (closings (begun s) i before) i .cells) 0 blank
+    pub root : 0 < closings (begun s) i before → getD (state s before i .cells) 0 0 ≡ getD (at s adversary (closings (begun s) i before) i .cells) 0 0
     -- before the last step is closed
     pub opened : closings (begun s) i before < steps (s .plan) → Open (state s before i)
     pub run : closings (begun s) i before < steps (s .plan) → state s before i .rec .run ≡ stepRun (s .plan) (suc (closings (begun s) i before))
@@ -423,8 +425,8 @@ module _ (s : Setting) (calls : List Call) (sound : Sound s) (fair : Fair s call
         most = most;
         list = below-or-end j (steps (s .plan)) most (λ l. ap (λ (b : Board). b .rec .list) (here l)) (λ z. ap (λ (b : Board). b .rec .list) (done z ∙ ap (λ k. at s adversary k i) (sym z)));
         root = λ low. below-or-end j (steps (s .plan)) most
-            (λ l. ap (λ (b : Board). getD (b .cells) 0 blank) (here l) ∙ hearing-root s adversary sound j i ki l msg low)
-            (λ z. ap (λ (b : Board). getD (b .cells) 0 blank) (done z ∙ ap (λ k. at s adversary k i) (sym z)));
+            (λ l. ap (λ (b : Board). getD (b .cells) 0 0) (here l) ∙ hearing-root s adversary sound j i ki l msg low)
+            (λ z. ap (λ (b : Board). getD (b .cells) 0 0) (done z ∙ ap (λ k. at s adversary k i) (sym z)));
         opened = λ l. subst Open (sym (here l)) (hearing-open s adversary sound j i ki l msg);
         run = λ l. ap (λ (b : Board). b .rec .run) (here l);
         round = λ l. ap (λ (b : Board). b .rec .round) (here l);

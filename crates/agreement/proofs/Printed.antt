@@ -11,6 +11,7 @@ use lib.Dec.{eqb, ltb}
 use lib.ListN.{length, getD, take, drop}
 use lib.Seq.{take-append-seam}
 use borrow.Author.Tests.{eq-eqb, eqb-true, eqb-false, ltb-true, ltb-false}
+use Rattle.codec.specs.Codec.{Width}
 use Rattle.sets.specs.Search.{any}
 use Rattle.sets.specs.Sets.{member, within}
 use Rattle.sets.specs.Structure.{holder, heldAt}
@@ -37,14 +38,14 @@ passes : (b : Bool) (x y : Play) → x .answer .number ≢ 0 → cond b x y .ans
 passes true x y l e = absurd (l e)
 passes false x y l e = (refl, refl)
 
-pub played-head : (text cells out : List ℕ) → playing text cells out .answer .number ≡ 0
-    → (reading text .answer .number ≡ 0) × (cellsNeeded ≤ length cells) × (playing text cells out ≡ playHead (reading text .head) (reading text .frames) cells out)
+pub played-head : (w : Width) (text cells out : List ℕ) → playing w text cells out .answer .number ≡ 0
+    → (reading w text .answer .number ≡ 0) × (cellsNeeded ≤ length cells) × (playing w text cells out ≡ playHead w (reading w text .head) (reading w text .frames) cells out)
 unfolding playing refusedPlay wrongAt
-played-head text cells out e =
-    let r = reading text in
+played-head w text cells out e =
+    let r = reading w text in
     let number : Play → ℕ = λ p. p .answer .number in
     let (b1, e1) = passes (ltb sheetMost (length text)) _ _ (omega arith) e in
-    let (b2, e2) = passes (ltb (length out) outputNeeded) _ _ (omega arith) (ap number (sym e1) ∙ e) in
+    let (b2, e2) = passes (ltb (length out) (outputNeeded w)) _ _ (omega arith) (ap number (sym e1) ∙ e) in
     let (b3, e3) = passes (ltb (length cells) cellsNeeded) _ _ (omega arith) (ap number (sym (e1 ∙ e2)) ∙ e) in
     let e4 = ap number (sym (e1 ∙ e2 ∙ e3)) ∙ e in
     cases (eqb (r .answer .number) 0)
@@ -52,24 +53,24 @@ played-head text cells out e =
     (λ t. absurd (eqb-false (r .answer .number) 0 t (rw t at e4)))
 
 -- It prints the lines of its boards.
-prints-lines : (text cells out : List ℕ) → playing text cells out .answer .number ≡ 0
-    → benchPrints text cells out ≡ printBoards (reading text .head) (finalBoards (reading text .head) (reading text .frames) cells) 0 (reading text .head .plan .n)
+prints-lines : (w : Width) (text cells out : List ℕ) → playing w text cells out .answer .number ≡ 0
+    → benchPrints w text cells out ≡ printBoards w (reading w text .head) (finalBoards w (reading w text .head) (reading w text .frames) cells) 0 (reading w text .head .plan .n)
 unfolding benchPrints playHead
-prints-lines text cells out e =
-    let (_, _, x) = played-head text cells out e in
-    let h = reading text .head in
-    let lines = printBoards h (finalBoards h (reading text .frames) cells) 0 (h .plan .n) in
+prints-lines w text cells out e =
+    let (_, _, x) = played-head w text cells out e in
+    let h = reading w text .head in
+    let lines = printBoards w h (finalBoards w h (reading w text .frames) cells) 0 (h .plan .n) in
     ap shown x ∙ take-append-seam lines (drop (length lines) out)
   where
     shown : Play → List ℕ
     shown r = let first = getD (r .answer .values) 0 0 in cond (eqb (r .answer .number) 0) (take first (r .out)) (refusalText (r .answer .number) first)
 
-module _ (h : Head) (fs : List Frame) (cells : List ℕ) (agreed : SessionAgreement (setting h cells) (sheetAdversary h fs)) where
+module _ (w : Width) (h : Head) (fs : List Frame) (cells : List ℕ) (agreed : SessionAgreement (setting w h cells) (sheetAdversary w h fs)) where
   abbrev s : Setting
-  s = setting h cells
+  s = setting w h cells
 
-  abbrev w : Boards
-  w = finalBoards h fs cells
+  abbrev bs : Boards
+  bs = finalBoards w h fs cells
 
   keeper-below : (i : ℕ) → keeper s i ≡ true → i < h .plan .n
   unfolding keeper setting
@@ -78,7 +79,7 @@ module _ (h : Head) (fs : List Frame) (cells : List ℕ) (agreed : SessionAgreem
   -- The decision: the dealer's value, or what the first board that keeps cells has decided.
   record Chosen : Type 0 where
     decision : ℕ
-    keepers : (i : ℕ) → keeper s i ≡ true → boardAt w i .rec .decision ≡ decision
+    keepers : (i : ℕ) → keeper s i ≡ true → boardAt bs i .rec .decision ≡ decision
     dealers : member (h .plan .dealer) (h .faulty) ≡ false → decision ≡ h .word
 
   chosen : Chosen
@@ -87,7 +88,7 @@ module _ (h : Head) (fs : List Frame) (cells : List ℕ) (agreed : SessionAgreem
       cases (member (h .plan .dealer) (h .faulty))
       (λ d. cases (any (keeper s) (h .plan .n))
       (λ a. let (k, _, kk) = any-true (keeper s) (h .plan .n) a in
-      record { decision = boardAt w k .rec .decision; keepers = λ i ki. agreed .equal i k ki kk; dealers = λ x. clash d x })
+      record { decision = boardAt bs k .rec .decision; keepers = λ i ki. agreed .equal i k ki kk; dealers = λ x. clash d x })
       (λ a. record { decision = 0; keepers = λ i ki. clash ki (any-false (keeper s) (h .plan .n) a i (keeper-below i ki)); dealers = λ x. clash d x }))
       (λ d. record {
         decision = h .word;
@@ -97,7 +98,7 @@ module _ (h : Head) (fs : List Frame) (cells : List ℕ) (agreed : SessionAgreem
 
   -- The lists: the dealer's is empty.
   lists : ℕ → ℕ
-  lists i = cond (eqb i (h .plan .dealer)) 0 (asSet (boardAt w i .rec .list))
+  lists i = cond (eqb i (h .plan .dealer)) 0 (asSet (boardAt bs i .rec .list))
 
   lists-sound : (i : ℕ) → i < h .plan .n → member i (h .faulty) ≡ false → within (lists i) (h .faulty) ≡ true
   unfolding lists setting finalBoards at
@@ -124,7 +125,7 @@ module _ (h : Head) (fs : List Frame) (cells : List ℕ) (agreed : SessionAgreem
       let (k, e) = list-placed s (lists i) sound (lists-sound i l out) in
       e ∙ ap some (sym (held-some (listed (h .plan)) (lists i) k e))
 
-  agreed-lines : (k i : ℕ) → i + k ≡ h .plan .n → printBoards h w i k ≡ agreedLines h (chosen .decision) lists places i k
+  agreed-lines : (k i : ℕ) → i + k ≡ h .plan .n → printBoards w h bs i k ≡ agreedLines w h (chosen .decision) lists places i k
   unfolding printBoards boardLine agreedLines lists places setting
   agreed-lines zero i e = refl
   agreed-lines (suc k) i e =
@@ -134,26 +135,26 @@ module _ (h : Head) (fs : List Frame) (cells : List ℕ) (agreed : SessionAgreem
       (λ f. rw f ih)
       (λ f. cases (eqb i (h .plan .dealer))
       (λ d. let v : chosen .decision ≡ h .word = chosen .dealers (ap (λ x. member x (h .faulty)) (sym (eqb-true i (h .plan .dealer) d)) ∙ f) in
-      rw (f, d, held-empty sets) (ap₂ (λ x y. printed i x 0 0 y) (sym v) ih))
-      (λ d. let list = asSet (boardAt w i .rec .list) in
-      rw (f, d) (ap₂ (λ x y. printed i x list (heldAt sets list) y) (chosen .keepers i (is-keeper s i (omega arith) f (eqb-false i (h .plan .dealer) d))) ih)))
+      rw (f, d, held-empty sets) (ap₂ (λ x y. printed w i x 0 0 y) (sym v) ih))
+      (λ d. let list = asSet (boardAt bs i .rec .list) in
+      rw (f, d) (ap₂ (λ x y. printed w i x list (heldAt sets list) y) (chosen .keepers i (is-keeper s i (omega arith) f (eqb-false i (h .plan .dealer) d))) ih)))
 
 -- What a played sheet prints obeys demand 3.
 pub printed-agreement : Printed
-printed-agreement text cells out e =
-    let h = reading text .head in
-    let fs = reading text .frames in
-    let (ok, room, _) = played-head text cells out e in
-    let sound = sheet-sound text cells ok room in
-    let agreed = synchronous (setting h cells) (sheetAdversary h fs) sound in
+printed-agreement w text cells out e =
+    let h = reading w text .head in
+    let fs = reading w text .frames in
+    let (ok, room, _) = played-head w text cells out e in
+    let sound = sheet-sound w text cells ok room in
+    let agreed = synchronous (setting w h cells) (sheetAdversary w h fs) sound in
     record {
-      decision = chosen h fs cells agreed .decision;
-      lists = lists h fs cells agreed;
-      places = places h fs cells agreed;
-      prints = prints-lines text cells out e ∙ agreed-lines h fs cells agreed (h .plan .n) 0 (omega arith);
-      dealers = chosen h fs cells agreed .dealers;
-      sound = lists-sound h fs cells agreed;
-      placed = lists-placed h fs cells agreed sound;
-      dealer-list = λ _. dealer-empty h fs cells agreed;
-      dealer-place = λ _. dealer-first h fs cells agreed;
+      decision = chosen w h fs cells agreed .decision;
+      lists = lists w h fs cells agreed;
+      places = places w h fs cells agreed;
+      prints = prints-lines w text cells out e ∙ agreed-lines w h fs cells agreed (h .plan .n) 0 (omega arith);
+      dealers = chosen w h fs cells agreed .dealers;
+      sound = lists-sound w h fs cells agreed;
+      placed = lists-placed w h fs cells agreed sound;
+      dealer-list = λ _. dealer-empty w h fs cells agreed;
+      dealer-place = λ _. dealer-first w h fs cells agreed;
     }

@@ -144,6 +144,6 @@ unfolding convert runEnded
 convert-grow b s q h = let r = b .rec in levels-grow (r .plan) (r .board) (r .run) (r .round) (s .cells) (rounds (r .plan) .0 - 1) (s .list) q h
 
 -- 01: "The resolved root becomes the root cell", in every run.
-pub convert-cells : (b : Board) (s : Scan) → let r = b .rec in convert b s .cells ≡ rootOnly (r .plan .n) (resolveRoot (r .plan) (r .board) (s .cells)) (s .cells)
+pub convert-cells : (b : Board) (s : Scan) → let r = b .rec in convert b s .cells ≡ rootOnly (b .width) (r .plan .n) (resolveRoot (r .plan) (r .board) (s .cells)) (s .cells)
 unfolding convert runEnded
 convert-cells b s = refl

@@ -19,7 +19,6 @@ use Rattle.schedule.specs.declared.rounds.Round.{Round}
 use Rattle.schedule.specs.Schedule.{rounds, steps, step, stepRun, stepRound}
 use Rattle.schedule.proofs.Steps.{Has, round-of-step}
 use Rattle.tree.specs.Labels.{Label, occurs, last}
-use Rattle.tree.specs.Cells.{blank}
 use Rattle.tree.proofs.Labels.{root-has}
 use Rattle.tree.proofs.Cells.{root-cell}
 use Rattle.theory.specs.Tree as T
@@ -87,11 +86,11 @@ module _ (s : Setting) (a : Adversary) (sound : Sound s) where
     scan-other b γ w ne = ap (λ x. read plan (x .cells) γ) is-scanned ∙ scanned-other s a sound j i ki l b γ w ne
 
     -- So past round 1 does the first cell, the root's.
-    pub scan-first : 2 ≤ open-round s a sound j → getD (scan j i .cells) 0 blank ≡ getD (at s a j i .cells) 0 blank
+    pub scan-first : 2 ≤ open-round s a sound j → getD (scan j i .cells) 0 0 ≡ getD (at s a j i .cells) 0 0
     scan-first later =
         let n = plan .n in
         let d = plan .dealer in
-        ap (λ x. getD (x .cells) 0 blank) is-scanned ∙ sym (root-cell n d (scanned s a sound j i ki l .cells))
+        ap (λ x. getD (x .cells) 0 0) is-scanned ∙ sym (root-cell n d (scanned s a sound j i ki l .cells))
         ∙ scanned-cell s a sound j i ki l 1 (d ∷ []) (root-has n d) (let z : 1 ≢ open-round s a sound j = omega arith in z)
         ∙ root-cell n d (at s a j i .cells)
 
@@ -137,15 +136,15 @@ module _ (s : Setting) (a : Adversary) (sound : Sound s) where
 
     -- The first cell stays from a round past the first to a later one of the run, m steps on.
     pub first-stays : (m j : ℕ) → 2 ≤ open-round s a sound j → open-round s a sound j + m ≤ R → j + m < steps plan
-        → getD (at s a (j + m) i .cells) 0 blank ≡ getD (at s a j i .cells) 0 blank
-    first-stays zero j later e h = ap (λ x. getD (at s a x i .cells) 0 blank) (let z : j + 0 ≡ j = omega arith in z)
+        → getD (at s a (j + m) i .cells) 0 0 ≡ getD (at s a j i .cells) 0 0
+    first-stays zero j later e h = ap (λ x. getD (at s a x i .cells) 0 0) (let z : j + 0 ≡ j = omega arith in z)
     first-stays (suc m) j later e h =
         let l : j < steps plan = omega arith in
         let lt : open-round s a sound j < R = omega arith in
         let next = next-open j i ki l lt in
-        ap (λ x. getD (at s a x i .cells) 0 blank) (let z : j + suc m ≡ suc j + m = omega arith in z)
+        ap (λ x. getD (at s a x i .cells) 0 0) (let z : j + suc m ≡ suc j + m = omega arith in z)
         ∙ first-stays m (suc j) (omega arith) (omega arith) (omega arith)
-        ∙ ap (λ c. getD c 0 blank) (next-board j i ki l lt .1) ∙ scan-first j i ki l later
+        ∙ ap (λ c. getD c 0 0) (next-board j i ki l lt .1) ∙ scan-first j i ki l later
 
   -- The end of a run: step jE, which closes round R.
   module _ (jE : ℕ) (lE : jE < steps plan) (end : open-round s a sound jE ≡ R) (i : ℕ) (ki : keeper s i ≡ true) where

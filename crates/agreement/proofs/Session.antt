@@ -22,7 +22,6 @@ use Rattle.schedule.specs.Schedule.{rounds, runs, steps, step, stepRun, stepRou
 use Rattle.schedule.proofs.Levels.{rounds-pos, runs-pos, rounds-full, rounds-cut}
 use Rattle.heights.proofs.Heights.{height-most}
 use Rattle.schedule.proofs.Steps.{Has, run-split, step-has, step-of-round, round-of-step, runs-enough, cut-four}
-use Rattle.tree.specs.Cells.{blank}
 use Rattle.theory.specs.Tree as T
 use Rattle.theory.specs.Runs as U
 use Rattle.theory.proofs.Agreement.{persistence, validity, detection, cut-agreement, full-agreement}
@@ -75,7 +74,7 @@ module _ (s : Setting) (a : Adversary) (sound : Sound s) where
   root-after : (t : ℕ) → t < runs plan .0 → (i : ℕ) → keeper s i ≡ true → rootAfter s a (suc t) i ≡ roots s a sound t i
   unfolding rootAfter ended rootOnly
   root-after t lt i ki =
-      ap (λ x. getD (at s a x i .cells) 0 blank) (number s a sound t lt) ∙ ap (λ c. getD c 0 blank) (left-root s a sound t lt i ki)
+      ap (λ x. getD (at s a x i .cells) 0 0) (number s a sound t lt) ∙ ap (λ c. getD c 0 0) (left-root s a sound t lt i ki)
 
   decision : (i : ℕ) (ki : keeper s i ≡ true)
       → (at s a (steps plan) i .rec .decided ≡ true) × (at s a (steps plan) i .rec .decision ≡ roots s a sound last-run i)
@@ -105,7 +104,7 @@ module _ (s : Setting) (a : Adversary) (sound : Sound s) where
 
   -- In the run after t a board is past step 1, and its first cell is the root after run t.
   pub root-shown : (t j i : ℕ) → 1 ≤ t → j < steps plan → stepRun plan (suc j) .0 ≡ t + 1 → keeper s i ≡ true
-      → (0 < j) × (getD (at s a j i .cells) 0 blank ≡ rootAfter s a t i)
+      → (0 < j) × (getD (at s a j i .cells) 0 0 ≡ rootAfter s a t i)
   unfolding rootAfter ended step
   root-shown t j i low l in-run ki =
       let w = rounds plan .0 - 1 in
@@ -128,7 +127,7 @@ module _ (s : Setting) (a : Adversary) (sound : Sound s) where
       let number-of : (stepRun plan (suc j) .0 - 1) * w + k ≡ suc j = step-of-round plan (suc j) (omega arith) (omega arith) in
       let here : start + (k - 2) ≡ j = omega (arith, rounds-pos plan, ap (λ x. (x - 1) * w) in-run, ap (λ x. x * w) back) in (
         omega arith,
-        ap (λ x. getD (at s a x i .cells) 0 blank) (sym here)
+        ap (λ x. getD (at s a x i .cells) 0 0) (sym here)
             ∙ first-stays s a sound i ki (k - 2) start (omega arith) (omega (arith, h .round-high)) (omega arith),
       )
 

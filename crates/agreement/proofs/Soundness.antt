@@ -10,6 +10,7 @@ use native.Mathlib.Omega.{arith}
 use lib.Dec.{eqb, ltb}
 use lib.ListN.{length}
 use borrow.Author.Tests.{eqb-true, eqb-false, eq-eqb, ne-eqb, ltb-true, ltb-false, lt-ltb}
+use Rattle.codec.specs.Codec.{Width}
 use Rattle.sets.specs.Sets.{member}
 use Rattle.sets.proofs.Tests.{cases, clash, is-false, or-r}
 use Rattle.sets.proofs.Member.{member-empty}
@@ -58,9 +59,9 @@ module _ (s : Setting) (a : Adversary) (sound : Sound s) where
   open-round j = stepRound plan (suc j) .0
 
   -- The root cell after conversion.
-  pub root-read : (x : ℕ) (c : List ℕ) → x < plan .span → read plan (rootOnly (plan .n) x c) (plan .dealer ∷ []) ≡ x
+  pub root-read : (w : Width) (x : ℕ) (c : List ℕ) → x < plan .span → read plan (rootOnly w (plan .n) x c) (plan .dealer ∷ []) ≡ x
   unfolding read cellAt place levelStart levelSize rank rootOnly
-  root-read x c small = value-same plan x small
+  root-read w x c small = value-same plan x small
 
   pub record Inv (j : ℕ) : Type 0 where
     -- lists hold faulty boards only
@@ -350,7 +351,7 @@ module _ (s : Setting) (a : Adversary) (sound : Sound s) where
           ∙ ap (λ x. read plan (x .cells) (plan .dealer ∷ [])) (scan-is i ki) ∙ scan-root f i ki)
           (λ x. let ge = ltb-false (open-round j) (rounds plan .0) x in
           ap (λ (b : Board). read plan (b .cells) (plan .dealer ∷ [])) (run-ends i ki ge)
-          ∙ root-read (resolveRoot plan i (scan-of i .cells)) (scan-of i .cells) (root-small plan default-below i (scan-of i .cells))
+          ∙ root-read (at s a j i .width) (resolveRoot plan i (scan-of i .cells)) (scan-of i .cells) (root-small plan default-below i (scan-of i .cells))
           ∙ convert-root (omega (arith, high i ki)) f i ki);
     }
       where

@@ -140,11 +140,11 @@ module _ (s : Setting) (a : Adversary) (sound : Sound s) where
   resolved t i = ap (λ o. Option·getD o (default plan)) (resolve-inst plan i (scan s a sound (last-step t) i .cells) (R - 1) (plan .dealer ∷ []))
 
   module _ (t : ℕ) (lt : t < runs plan .0) (i : ℕ) (ki : keeper s i ≡ true) where
-    pub left-root : at s a (suc (last-step t)) i .cells ≡ rootOnly (plan .n) (roots t i) (scan s a sound (last-step t) i .cells)
+    pub left-root : at s a (suc (last-step t)) i .cells ≡ rootOnly (at s a (last-step t) i .width) (plan .n) (roots t i) (scan s a sound (last-step t) i .cells)
     left-root =
         let l = in-time t lt in
         ap (λ (b : Board). b .cells) (run-ends s a sound (last-step t) l (inv s a sound (last-step t) l) i ki (let z : R ≤ open-round s a sound (last-step t) = omega (arith, at-end t lt) in z))
-        ∙ convert-cells _ _ ∙ ap (λ x. rootOnly (plan .n) x (scan s a sound (last-step t) i .cells)) (resolved t i)
+        ∙ convert-cells _ _ ∙ ap (λ x. rootOnly (at s a (last-step t) i .width) (plan .n) x (scan s a sound (last-step t) i .cells)) (resolved t i)
 
     root-value : roots t i < plan .span
     root-value =
@@ -175,4 +175,4 @@ module _ (s : Setting) (a : Adversary) (sound : Sound s) where
           ∙ scan-other s a sound j i ki lj 1 (plan .dealer ∷ []) w (let z : 1 ≢ open-round s a sound j = omega arith in z)
           ∙ ap (λ x. read plan (at s a x i .cells) (plan .dealer ∷ [])) here
           ∙ ap (λ x. read plan x (plan .dealer ∷ [])) (left-root t (omega arith) i ki)
-          ∙ root-read s a sound (roots t i) (scan s a sound (last-step t) i .cells) (root-value t (omega arith) i ki)
+          ∙ root-read s a sound (at s a (last-step t) i .width) (roots t i) (scan s a sound (last-step t) i .cells) (root-value t (omega arith) i ki)

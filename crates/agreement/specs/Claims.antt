@@ -9,7 +9,6 @@ use Rattle.sets.specs.Search.{count}
 use Rattle.sets.specs.Sets.{member, within}
 use Rattle.heights.specs.Levels.{depthOf, isCut}
 use Rattle.schedule.specs.Schedule.{rounds, runs, steps, step}
-use Rattle.tree.specs.Cells.{blank}
 use Rattle.protocol.specs.declared.records.Slot.{Slot}
 use Rattle.protocol.specs.Listing.{asSet}
 use Rattle.protocol.specs.Rounds.{Board}
@@ -22,7 +21,7 @@ ended s a t i = at s a (step (s .plan) (record { 0 = t }) (rounds (s .plan))) i
 
 -- 01: "a board's root after run t is its first cell" then.
 unfoldable pub rootAfter : Setting → Adversary → ℕ → ℕ → ℕ
-rootAfter s a t i = getD (ended s a t i .cells) 0 blank
+rootAfter s a t i = getD (ended s a t i .cells) 0 0
 
 -- Board i's list then.
 unfoldable pub listEnded : Setting → Adversary → ℕ → ℕ → List Slot

@@ -14,7 +14,6 @@ use Rattle.plan.specs.Listed.{listed}
 use Rattle.refusals.specs.Outcome.{Outcome, taken}
 use Rattle.heights.specs.Levels.{depthOf, isCut}
 use Rattle.schedule.specs.Schedule.{rounds, runs, steps}
-use Rattle.tree.specs.Cells.{blank}
 use Rattle.protocol.specs.declared.records.Slot.{Slot}
 use Rattle.protocol.specs.Listing.{asSet}
 use Rattle.protocol.specs.Nodes.{due}
@@ -97,7 +96,7 @@ pub record Written (s : Setting) (before : List Call) (i q : ℕ) (f : List ℕ)
 -- 01: "the frame which that board sent this receiver for the run and round that it is taken for: d's frame in round 1, else what a writing
 -- of the sender in that run and round gave earlier in the list". From board q, outside F, to board i as it stands after the calls `before`.
 pub record AsSent (s : Setting) (before : List Call) (i q : ℕ) (f : List ℕ) : Type 0 where
-  pub dealt : q ≡ s .plan .dealer → f ≡ dealing (s .plan) (s .word) .values
+  pub dealt : q ≡ s .plan .dealer → f ≡ dealing (s .width) (s .plan) (s .word) .values
   pub written : q ≢ s .plan .dealer → Written s before i q f
 
 -- 01: "was handed in", in the run and round in which board i stands.
@@ -156,7 +155,7 @@ pub record EndsRun (s : Setting) (t i : ℕ) (before calls : List Call) : Type 0
 
 -- Board i as its closing after the calls `before` left it: its root and its list.
 unfoldable pub root : Setting → ℕ → List Call → ℕ
-root s i before = getD (closing (state s before i) .board .cells) 0 blank
+root s i before = getD (closing (state s before i) .board .cells) 0 0
 
 unfoldable pub list : Setting → ℕ → List Call → List Slot
 list s i before = closing (state s before i) .board .rec .list
@@ -223,7 +222,7 @@ pub record Agreement (s : Setting) (calls : List Call) : Type 0 where
       → (t i : ℕ) (before : List Call) → keeper s i ≡ true → EndsRun s t i before calls → root s i before ≡ s .word
   -- When it can be read: while an undecided board stands in run t + 1, its first cell is its root after run t.
   pub root-shown : (t i : ℕ) (before now : List Call) → keeper s i ≡ true → EndsRun s t i before calls → Prefix now calls
-      → state s now i .rec .decided ≡ false → state s now i .rec .run .0 ≡ t + 1 → getD (state s now i .cells) 0 blank ≡ root s i before
+      → state s now i .rec .decided ≡ false → state s now i .rec .run .0 ≡ t + 1 → getD (state s now i .cells) 0 0 ≡ root s i before
   -- 01: "or the decision, which is the root": after the last run
   pub root-decided : (i : ℕ) (before : List Call) → keeper s i ≡ true → EndsRun s (runs (s .plan) .0) i before calls
       → state s calls i .rec .decision ≡ root s i before

@@ -4,6 +4,7 @@ use mathlib.Core.Path.{_≡_}
 use mathlib.Core.Bool.{true, false, cond}
 use mathlib.Core.List.{List, []}
 use mathlib.Core.Option.{some}
+use Rattle.codec.specs.Codec.{Width}
 use Rattle.sets.specs.Sets.{member, within}
 use Rattle.sets.specs.Structure.{holder}
 use Rattle.plan.specs.Listed.{listed}
@@ -12,18 +13,18 @@ use Rattle.sheet.specs.Sheet.{reading}
 use Rattle.sheet.specs.Playing.{printed, playing, benchPrints}
 
 -- The lines of those boards i to i + k - 1 that are outside F, rising: the board, one decision, the board's list and its place.
-unfoldable pub agreedLines : Head → ℕ → (ℕ → ℕ) → (ℕ → ℕ) → ℕ → ℕ → List ℕ
-agreedLines h decision lists places i zero = []
-agreedLines h decision lists places i (suc k) =
-    let rest = agreedLines h decision lists places (suc i) k in
-    cond (member i (h .faulty)) rest (printed i decision (lists i) (places i) rest)
+unfoldable pub agreedLines : Width → Head → ℕ → (ℕ → ℕ) → (ℕ → ℕ) → ℕ → ℕ → List ℕ
+agreedLines w h decision lists places i zero = []
+agreedLines w h decision lists places i (suc k) =
+    let rest = agreedLines w h decision lists places (suc i) k in
+    cond (member i (h .faulty)) rest (printed w i decision (lists i) (places i) rest)
 
-pub record PrintedAgreement (h : Head) (text : List ℕ) : Type 0 where
+pub record PrintedAgreement (w : Width) (h : Head) (text : List ℕ) : Type 0 where
   pub decision : ℕ
   pub lists : ℕ → ℕ
   pub places : ℕ → ℕ
   -- the text is a line for each board outside F, all with one decision
-  pub prints : text ≡ agreedLines h decision lists places 0 (h .plan .n)
+  pub prints : text ≡ agreedLines w h decision lists places 0 (h .plan .n)
   -- the dealer's value, if the dealer is outside F
   pub dealers : member (h .plan .dealer) (h .faulty) ≡ false → decision ≡ h .word
   -- each list lies within F
@@ -35,6 +36,7 @@ pub record PrintedAgreement (h : Head) (text : List ℕ) : Type 0 where
   pub dealer-list : member (h .plan .dealer) (h .faulty) ≡ false → lists (h .plan .dealer) ≡ 0
   pub dealer-place : member (h .plan .dealer) (h .faulty) ≡ false → places (h .plan .dealer) ≡ 0
 
--- What the program bench prints for a sheet that is not turned down obeys demand 3.
+-- What the program bench prints for a sheet that is not turned down obeys demand 3, in every width.
 abbrev pub Printed : Type 0
-Printed = (text cells out : List ℕ) → playing text cells out .answer .number ≡ 0 → PrintedAgreement (reading text .head) (benchPrints text cells out)
+Printed = (w : Width) (text cells out : List ℕ) → playing w text cells out .answer .number ≡ 0
+    → PrintedAgreement w (reading w text .head) (benchPrints w text cells out)

@@ -1,6 +1,6 @@
 // Closing a round after the first: the board's own cells.
-use codec::value::Value;
 use codec::value::VALUE_SIZE;
+use codec::value::Value;
 use frames::writing::write_at;
 use plan::plan::Plan;
 use protocol::limits::VALUES;

@@ -1,6 +1,6 @@
 // The lines of the boards, in uppercase hexadecimal.
-use codec::value::Value;
 use codec::value::VALUE_SIZE;
+use codec::value::Value;
 use digits::writing::print_byte;
 use listing::listing::as_set;
 use protocol::limits::LINE;

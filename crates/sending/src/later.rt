@@ -1,6 +1,6 @@
 // Later rounds: a frame is the nodes that it carries, found by one walk of the level.
-use codec::value::Value;
 use codec::value::VALUE_SIZE;
+use codec::value::Value;
 use frames::writing::write_at;
 use plan::plan::Plan;
 use protocol::answers::Sent;

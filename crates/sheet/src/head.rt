@@ -1,6 +1,6 @@
 // The head of a sheet, and where its parts stand, in bytes; n stands first. Their definitions stand in specs/Sheet.
-use codec::value::Value;
 use codec::value::VALUE_SIZE;
+use codec::value::Value;
 use plan::plan::Plan;
 
 // The span, m.
