@@ -5,11 +5,11 @@ use mathlib.Core.Path.{_≡_, ap, ap₂, _∙_}
 use mathlib.Core.List.{List, _∷_, _++_}
 use native.Mathlib.Omega.{arith}
 use lib.ListN.{length, drop, replicate}
+use Rattle.codec.specs.Codec.{current, blank}
 use Rattle.plan.specs.declared.plan.Plan.{Plan}
 use Rattle.schedule.specs.declared.rounds.Run.{Run}
 use Rattle.schedule.specs.declared.rounds.Round.{Round}
 use Rattle.tree.specs.Places.{cellCount}
-use Rattle.tree.specs.Cells.{blank}
 use Rattle.protocol.specs.declared.records.Slot.{Slot}
 use Rattle.protocol.specs.Detection.{resolveRoot}
 use Rattle.protocol.specs.Rounds.{rootOnly}
@@ -39,7 +39,7 @@ convertible {p} s most room = record {
 -- Surplus cells are left as they were.
 pub root-kept : (p : Plan) (i : ℕ) (run : Run) (round : Round) (list : List Slot) (root : ℕ) (found : List Slot) (before after : List ℕ) → p .dealer < p .n
     → Converts p i run round list root found before after
-    → rootOnly (p .n) root after ≡ rootOnly (p .n) (resolveRoot p i before) before
+    → rootOnly current (p .n) root after ≡ rootOnly current (p .n) (resolveRoot p i before) before
 unfolding rootOnly
 root-kept p i run round list root found before after l c =
-    ap₂ (λ v xs. (v ∷ replicate (cellCount (p .n) - 1) blank) ++ xs) (c .root-is) (ap (drop (cellCount (p .n))) (c .cells-are) ∙ all-drop p i before l)
+    ap₂ (λ v xs. (v ∷ replicate (cellCount (p .n) - 1) (blank current)) ++ xs) (c .root-is) (ap (drop (cellCount (p .n))) (c .cells-are) ∙ all-drop p i before l)

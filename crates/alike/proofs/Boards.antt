@@ -7,7 +7,7 @@ use mathlib.Core.Bool.{Bool, true, false, not, _&&_, _||_, cond}
 use mathlib.Core.List.{List, [], _∷_, _++_}
 use lib.Dec.{eqb, leb, ltb}
 use lib.ListN.{length, drop}
-use Rattle.codec.specs.Codec.{encode, decode}
+use Rattle.codec.specs.Codec.{Width, encode, decode}
 use Rattle.sets.specs.Search.{any}
 use Rattle.sets.specs.Sets.{member, within, boards}
 use Rattle.plan.specs.declared.plan.Plan.{Plan}
@@ -24,7 +24,7 @@ use Rattle.protocol.specs.declared.records.Slot.{Slot}
 use Rattle.protocol.specs.Listing.{entryAt, levelOf, asSet}
 use Rattle.protocol.specs.Records.{marked, advanced, runEnded}
 use Rattle.protocol.specs.Detection.{Scan}
-use Rattle.protocol.specs.Rounds.{Board, boardWith, fill, counted, receive, fillMissing, copyOwn, gather, rootOnly, cleared, nextRound, convert, close}
+use Rattle.protocol.specs.Rounds.{Board, boardOf, onto, fill, counted, receive, fillMissing, copyOwn, gather, rootOnly, cleared, nextRound, convert, close}
 use Rattle.protocol.specs.Calls.{isTaken, judgeNumber, judgeOther, judgeBoard, judgeCells, goodPlan, goodNumber, goodOther, goodPosition, goodMarks, goodEntry, goodEntries, goodDecision, goodRecord, judgeRecord, judgeDecided, judgeOpen, freshRecord, voidRecord, judgeBeginning, beginning, dealing, judgeReceiving, taking, receiving, frameOf, wireOf, judgeSending, sending, closedValues, closing, deciding}
 use Rattle.alike.specs.Alike.{Alike, onPlan, boardOn, resultOn, begunOn, AlikeCalls}
 use Rattle.alike.proofs.Trees.{rounds-alike, runs-alike, has-round-alike, default-alike, value-alike, inner-alike, sent-alike, due-alike, frame-alike}
@@ -115,7 +115,7 @@ module _ (p q : Plan) (a : Alike p q) where
   receive-alike b s vs = sym (λ j.
       let r = b .rec in
       let αs = sent-alike p q a s (r .board) (r .round) j in
-      boardWith (marked s (onPlan q r)) (fill-alike s αs (counted (r .list) s αs vs) (b .cells) j))
+      onto b (marked s (onPlan q r)) (fill-alike s αs (counted (r .list) s αs vs) (b .cells) j))
 
   ended-alike : (r : Record) (list : List Slot) (root : ℕ) → runEnded (onPlan q r) list root ≡ onPlan q (runEnded (onPlan p r) list root)
   unfolding runEnded
@@ -138,36 +138,36 @@ module _ (p q : Plan) (a : Alike p q) where
       let r = b .rec in
       let root = root-alike p q a (r .board) (s .cells) j in
       let list = levels-alike p q a (r .board) (r .run) (r .round) (s .cells) (rounds-alike p q a j .0 - 1) (s .list) j in
-      boardWith (sym (ended-alike r list root) j) (rootOnly (a .n j) root (s .cells)))
+      onto b (sym (ended-alike r list root) j) (rootOnly (b .width) (a .n j) root (s .cells)))
 
   close-alike : (b : Board) → close (boardOn q b) ≡ boardOn q (close (boardOn p b))
   unfolding close nextRound
   close-alike b = sym (board-by q (ltb (b .rec .round .0) (rounds p .0)) _ _ ∙ (λ j.
       let s = gather-alike b j in
       cond (ltb (b .rec .round .0) (rounds-alike p q a j .0))
-      (boardWith (advanced (onPlan q (b .rec)) (s .list)) (s .cells))
+      (onto b (advanced (onPlan q (b .rec)) (s .list)) (s .cells))
       (sym (convert-alike b s) j)))
 
   -- The calls.
-  pub begins-alike : (i : ℕ) (cells : List ℕ) → beginning q i cells ≡ begunOn q (beginning p i cells)
+  pub begins-alike : (w : Width) (i : ℕ) (cells : List ℕ) → beginning w q i cells ≡ begunOn q (beginning w p i cells)
   unfolding beginning freshRecord
-  begins-alike i cells =
-      let fresh = boardWith (freshRecord p i) (cleared (p .n) cells) in
-      let kept = boardWith voidRecord cells in
-      let once : begunOn q (beginning p i cells)
+  begins-alike w i cells =
+      let fresh = boardOf w (freshRecord p i) (cleared w (p .n) cells) in
+      let kept = boardOf w voidRecord cells in
+      let once : begunOn q (beginning w p i cells)
       ≡ record { answer = judgeBeginning p i cells; board = cond (isTaken (judgeBeginning p i cells)) (boardOn q fresh) kept } =
       λ j. record { answer = judgeBeginning p i cells; board = begun-by q (isTaken (judgeBeginning p i cells)) fresh kept j } in
       let over : record { answer = judgeBeginning p i cells; board = cond (isTaken (judgeBeginning p i cells)) (boardOn q fresh) kept }
-      ≡ beginning q i cells =
+      ≡ beginning w q i cells =
       λ j. record {
         answer = beginning-alike i cells j;
-        board = cond (isTaken (beginning-alike i cells j)) (boardWith (freshRecord q i) (cleared (a .n j) cells)) kept;
+        board = cond (isTaken (beginning-alike i cells j)) (boardOf w (freshRecord q i) (cleared w (a .n j) cells)) kept;
       } in
       sym (once ∙ over)
 
-  deals-alike : (v : ℕ) → dealing q v ≡ dealing p v
+  deals-alike : (w : Width) (v : ℕ) → dealing w q v ≡ dealing w p v
   unfolding dealing
-  deals-alike v = sym (λ j. andThen (a .judged j) (cond (leb (a .span j) v) (refused 18) (taken (encode (v ∷ [])))))
+  deals-alike w v = sym (λ j. andThen (a .judged j) (cond (leb (a .span j) v) (refused 18) (taken (encode w (v ∷ [])))))
 
   judge-receiving-alike : (b : Board) (s : ℕ) → judgeReceiving (boardOn p b) s ≡ judgeReceiving (boardOn q b) s
   unfolding judgeReceiving
@@ -193,7 +193,7 @@ module _ (p q : Plan) (a : Alike p q) where
 
   receives-alike : (b : Board) (s : ℕ) (f : List ℕ) → receiving (boardOn q b) s f ≡ resultOn q (receiving (boardOn p b) s f)
   unfolding receiving
-  receives-alike b s f = takes-alike b s (decode f)
+  receives-alike b s f = takes-alike b s (decode (b .width) f)
 
   pub frame-of-alike : (b : Board) → frameOf (boardOn p b) ≡ frameOf (boardOn q b)
   unfolding frameOf
@@ -201,7 +201,7 @@ module _ (p q : Plan) (a : Alike p q) where
 
   wire-alike : (b : Board) → wireOf (boardOn p b) ≡ wireOf (boardOn q b)
   unfolding wireOf
-  wire-alike b = λ j. encode (frame-of-alike b j)
+  wire-alike b = λ j. encode (b .width) (frame-of-alike b j)
 
   judge-sending-alike : (b : Board) (out : List ℕ) → judgeSending (boardOn p b) out ≡ judgeSending (boardOn q b) out
   unfolding judgeSending

@@ -1,13 +1,14 @@
 -- The synchronous session on alike plans: board by board the same, the plan apart.
 -- Assumes nothing.
 use Prim.Native.Nat.{ℕ, zero, suc, _<_}
-use mathlib.Core.Path.{_≡_, refl, sym, _∙_, ap, subst}
+use mathlib.Core.Path.{_≡_, refl, sym, _∙_, ap, subst, subst₂}
 use mathlib.Core.Logic.{_⊎_, inl, inr, ⊎-elim}
 use mathlib.Core.Bool.{true, false, cond}
 use mathlib.Core.List.{List, [], _∷_}
 use mathlib.Core.Option.{Option, some, none}
 use native.Mathlib.Omega.{arith}
 use lib.Dec.{eqb}
+use Rattle.codec.specs.Codec.{Width}
 use Rattle.sets.specs.Sets.{member}
 use Rattle.sets.specs.Tabulate.{tabulate}
 use Rattle.sets.proofs.Tests.{cases}
@@ -76,20 +77,20 @@ module _ (p q : Plan) (a : Alike p q) where
       inl (same, other))
       (λ k. inr (ap (λ x. closing x .board) (k .0), ap (λ x. goodRecord (x .rec)) (bad-closes b (k .1)) ∙ k .1))
 
-  kin-begins : (i : ℕ) (cells : List ℕ) → Kin p q (beginning p i cells .board) (beginning q i cells .board)
+  kin-begins : (w : Width) (i : ℕ) (cells : List ℕ) → Kin p q (beginning w p i cells .board) (beginning w q i cells .board)
   unfolding beginning freshRecord
-  kin-begins i cells =
+  kin-begins w i cells =
       let answer = judgeBeginning p i cells in
-      let other = ap (λ (x : Result). x .board) (begins-alike p q a i cells) in
+      let other = ap (λ (x : Result). x .board) (begins-alike p q a w i cells) in
       cases (isTaken answer)
       (λ t. inl (begun-own t, other ∙ rw t))
       (λ t. inr (other ∙ rw t, rw t bad-void))
     where
-      begun-own : isTaken (judgeBeginning p i cells) ≡ true → beginning p i cells .board ≡ boardOn p (beginning p i cells .board)
+      begun-own : isTaken (judgeBeginning p i cells) ≡ true → beginning w p i cells .board ≡ boardOn p (beginning w p i cells .board)
       begun-own t = rw t
 
 -- Settings that differ in their plans alone.
-module _ (s r : Setting) (a : Alike (s .plan) (r .plan)) (faulty : s .faulty ≡ r .faulty) (word : s .word ≡ r .word) (buffer : s .buffer ≡ r .buffer) (liars : Adversary) where
+module _ (s r : Setting) (same-width : s .width ≡ r .width) (a : Alike (s .plan) (r .plan)) (faulty : s .faulty ≡ r .faulty) (word : s .word ≡ r .word) (buffer : s .buffer ≡ r .buffer) (liars : Adversary) where
   abbrev SameBoard : Board → Board → Type 0
   SameBoard = Kin (s .plan) (r .plan)
 
@@ -127,8 +128,8 @@ module _ (s r : Setting) (a : Alike (s .plan) (r .plan)) (faulty : s .faulty ≡
   unfolding session begun hearAll
   kin-session zero =
       kin-tabulate (begun s) (begun r)
-      (λ i l. subst (λ cells. SameBoard (beginning (s .plan) i (s .buffer i) .board) (beginning (r .plan) i cells .board)) (ap (λ f. f i) buffer)
-      (kin-begins (s .plan) (r .plan) a i (s .buffer i)))
+      (λ i l. subst₂ (λ w cells. SameBoard (beginning (s .width) (s .plan) i (s .buffer i) .board) (beginning w (r .plan) i cells .board)) same-width (ap (λ f. f i) buffer)
+      (kin-begins (s .plan) (r .plan) a (s .width) i (s .buffer i)))
   kin-session (suc j) =
       let w = session s liars j in
       let v = session r liars j in

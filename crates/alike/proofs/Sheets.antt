@@ -8,6 +8,7 @@ use mathlib.Core.Option.{Option, some, none, Option·getD}
 use native.Mathlib.Omega.{arith}
 use lib.Dec.{eqb, leb}
 use lib.ListN.{length, drop}
+use Rattle.codec.specs.Codec.{Width}
 use Rattle.sets.specs.Sets.{member}
 use Rattle.sets.specs.Structure.{heldAt}
 use Rattle.sets.proofs.Tests.{cases}
@@ -52,40 +53,40 @@ module _ (g h : Head) (a : AlikeHeads g h) where
   unfolding steps
   steps-alike = λ j. rounds-alike (g .plan) (h .plan) (a .plan) j .0 + (runs-alike (g .plan) (h .plan) (a .plan) j .0 - 1) * (rounds-alike (g .plan) (h .plan) (a .plan) j .0 - 1)
 
-  adversary-alike : (fs : List Frame) → sheetAdversary g fs ≡ sheetAdversary h fs
+  adversary-alike : (w : Width) (fs : List Frame) → sheetAdversary w g fs ≡ sheetAdversary w h fs
   unfolding sheetAdversary stepRun stepRound
-  adversary-alike fs = λ j i k q.
+  adversary-alike w fs = λ j i k q.
       let last = rounds-alike (g .plan) (h .plan) (a .plan) j .0 in
-      decoded (findFrame (record { 0 = (suc k - 2) / (last - 1) + 1 }) (record { 0 = cond (leb (suc k) 1) 1 ((suc k - 2) % (last - 1) + 2) }) q i fs)
+      decoded w (findFrame (record { 0 = (suc k - 2) / (last - 1) + 1 }) (record { 0 = cond (leb (suc k) 1) 1 ((suc k - 2) % (last - 1) + 2) }) q i fs)
 
-  module _ (fs : List Frame) (cells : List ℕ) where
+  module _ (w : Width) (fs : List Frame) (cells : List ℕ) where
     abbrev ending : Head → Boards
-    ending x = finalBoards x fs cells
+    ending x = finalBoards w x fs cells
 
     fields-alike : (i : ℕ) → i < g .plan .n → SameFields (boardAt (ending g) i) (boardAt (ending h) i)
     unfolding finalBoards setting
     fields-alike i l =
-        let s = setting g cells in
-        let r = setting h cells in
+        let s = setting w g cells in
+        let r = setting w h cells in
         let buffer : s .buffer ≡ r .buffer = λ j i. part (a .plan .n j) i cells in
         let all : (liars : Adversary) (k : ℕ) → SameFields (boardAt (session s liars k) i) (boardAt (session r liars k) i) =
-        λ liars k. kin-fields (g .plan) (h .plan) _ _ (kin-session s r (a .plan) (a .faulty) (a .word) buffer liars k i l) in
-        subst₂ (λ liars k. SameFields (boardAt (ending g) i) (boardAt (session r liars k) i)) (adversary-alike fs) steps-alike
-        (all (sheetAdversary g fs) (steps (g .plan)))
+        λ liars k. kin-fields (g .plan) (h .plan) _ _ (kin-session s r refl (a .plan) (a .faulty) (a .word) buffer liars k i l) in
+        subst₂ (λ liars k. SameFields (boardAt (ending g) i) (boardAt (session r liars k) i)) (adversary-alike w fs) steps-alike
+        (all (sheetAdversary w g fs) (steps (g .plan)))
 
-    line-alike : (i : ℕ) (rest : List ℕ) → i < g .plan .n → boardLine g (ending g) i rest ≡ boardLine h (ending h) i rest
+    line-alike : (i : ℕ) (rest : List ℕ) → i < g .plan .n → boardLine w g (ending g) i rest ≡ boardLine w h (ending h) i rest
     unfolding boardLine heldAt
     line-alike i rest l = λ j.
         let same = fields-alike i l in
         let list = asSet (same .list j) in
-        let keepers = printed i (same .decision j) list (Option·getD (a .hold list j) 255) rest in
-        cond (member i (a .faulty j)) rest (cond (eqb i (a .plan .dealer j)) (printed i (a .word j) 0 0 rest) keepers)
+        let keepers = printed w i (same .decision j) list (Option·getD (a .hold list j) 255) rest in
+        cond (member i (a .faulty j)) rest (cond (eqb i (a .plan .dealer j)) (printed w i (a .word j) 0 0 rest) keepers)
 
-    boards-alike : (i k : ℕ) → i + k ≤ g .plan .n → printBoards g (ending g) i k ≡ printBoards h (ending h) i k
+    boards-alike : (i k : ℕ) → i + k ≤ g .plan .n → printBoards w g (ending g) i k ≡ printBoards w h (ending h) i k
     unfolding printBoards
     boards-alike i zero l = refl
     boards-alike i (suc k) l =
-        line-alike i (printBoards g (ending g) (suc i) k) (omega arith) ∙ ap (boardLine h (ending h) i) (boards-alike (suc i) k (omega arith))
+        line-alike i (printBoards w g (ending g) (suc i) k) (omega arith) ∙ ap (boardLine w h (ending h) i) (boards-alike (suc i) k (omega arith))
 
     cells-alike : (k : ℕ) → k ≤ g .plan .n → finalCells g (ending g) k cells ≡ finalCells h (ending h) k cells
     unfolding finalCells
@@ -95,18 +96,18 @@ module _ (g h : Head) (a : AlikeHeads g h) where
         let new = replacePart (a .plan .n j) k (fields-alike k (omega arith) .cells j) rest in
         cond (member k (a .faulty j) || eqb k (a .plan .dealer j)) rest new
 
-    text-alike : printBoards g (ending g) 0 (g .plan .n) ≡ printBoards h (ending h) 0 (h .plan .n)
-    text-alike = boards-alike 0 (g .plan .n) (omega arith) ∙ ap (printBoards h (ending h) 0) (a .plan .n)
+    text-alike : printBoards w g (ending g) 0 (g .plan .n) ≡ printBoards w h (ending h) 0 (h .plan .n)
+    text-alike = boards-alike 0 (g .plan .n) (omega arith) ∙ ap (printBoards w h (ending h) 0) (a .plan .n)
 
     parts-alike : finalCells g (ending g) (g .plan .n) cells ≡ finalCells h (ending h) (h .plan .n) cells
     parts-alike = cells-alike (g .plan .n) (omega arith) ∙ ap (λ n. finalCells h (ending h) n cells) (a .plan .n)
 
-  plays-alike : (fs : List Frame) (cells out : List ℕ) → playHead h fs cells out ≡ playHead g fs cells out
+  plays-alike : (w : Width) (fs : List Frame) (cells out : List ℕ) → playHead w h fs cells out ≡ playHead w g fs cells out
   unfolding playHead
-  plays-alike fs cells out =
-      let over : playHead g fs cells out ≡ playHead h fs cells out =
-      λ j. let text = text-alike fs cells j in
-      record { answer = taken (length text ∷ []); cells = parts-alike fs cells j; out = text ++ drop (length text) out } in
+  plays-alike w fs cells out =
+      let over : playHead w g fs cells out ≡ playHead w h fs cells out =
+      λ j. let text = text-alike w fs cells j in
+      record { answer = taken (length text ∷ []); cells = parts-alike w fs cells j; out = text ++ drop (length text) out } in
       sym over
 
 pub alike-plays : AlikePlays

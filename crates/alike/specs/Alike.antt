@@ -5,12 +5,13 @@ use mathlib.Core.Path.{_≡_}
 use mathlib.Core.Bool.{cond}
 use mathlib.Core.List.{List}
 use mathlib.Core.Option.{Option}
+use Rattle.codec.specs.Codec.{Width}
 use Rattle.sets.specs.Structure.{holder, tolerated}
 use Rattle.plan.specs.declared.plan.Plan.{Plan}
 use Rattle.plan.specs.Listed.{listed}
 use Rattle.plan.specs.Calls.{judged}
 use Rattle.protocol.specs.declared.records.Record.{Record}
-use Rattle.protocol.specs.Rounds.{Board, boardWith}
+use Rattle.protocol.specs.Rounds.{Board, onto}
 use Rattle.sheet.specs.declared.head.Head.{Head}
 use Rattle.sheet.specs.Sheet.{Frame, Line, Reading, readFrames}
 use Rattle.sheet.specs.Playing.{playHead}
@@ -40,7 +41,7 @@ onPlan p r = record {
 }
 
 abbrev pub boardOn : Plan → Board → Board
-boardOn p b = boardWith (onPlan p (b .rec)) (b .cells)
+boardOn p b = onto b (onPlan p (b .rec)) (b .cells)
 
 abbrev pub resultOn : Plan → Result → Result
 resultOn p x = record { answer = x .answer; board = boardOn p (x .board) }
@@ -51,8 +52,8 @@ begunOn p x = record { answer = x .answer; board = cond (isTaken (x .answer)) (b
 
 -- Every call on the one plan is the call on the other, the plan itself apart: the same answer, the same record, the same bytes.
 pub record SameCalls (p q : Plan) : Type 0 where
-  pub beginning : (i : ℕ) (cells : List ℕ) → beginning q i cells ≡ begunOn q (beginning p i cells)
-  pub dealing : (v : ℕ) → dealing q v ≡ dealing p v
+  pub beginning : (w : Width) (i : ℕ) (cells : List ℕ) → beginning w q i cells ≡ begunOn q (beginning w p i cells)
+  pub dealing : (w : Width) (v : ℕ) → dealing w q v ≡ dealing w p v
   pub receiving : (b : Board) (s : ℕ) (f : List ℕ) → receiving (boardOn q b) s f ≡ resultOn q (receiving (boardOn p b) s f)
   pub sending : (b : Board) (out : List ℕ) → sending (boardOn q b) out ≡ sending (boardOn p b) out
   pub closing : (b : Board) → closing (boardOn q b) ≡ resultOn q (closing (boardOn p b))
@@ -75,7 +76,7 @@ readingOn h r = record { answer = r .answer; head = h; frames = r .frames }
 -- Their sheets are read and played the same: every byte that is printed, and every cell.
 pub record SamePlays (g h : Head) : Type 0 where
   pub reading : (before : Option Frame) (line : ℕ) (ls : List Line) → readFrames h before line ls ≡ readingOn h (readFrames g before line ls)
-  pub playing : (fs : List Frame) (cells out : List ℕ) → playHead h fs cells out ≡ playHead g fs cells out
+  pub playing : (w : Width) (fs : List Frame) (cells out : List ℕ) → playHead w h fs cells out ≡ playHead w g fs cells out
 
 abbrev pub AlikePlays : Type 0
 AlikePlays = (g h : Head) → AlikeHeads g h → SamePlays g h

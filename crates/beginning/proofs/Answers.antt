@@ -5,6 +5,7 @@ use mathlib.Core.Path.{_≡_, refl, sym, ap}
 use mathlib.Core.Logic.{_≢_}
 use mathlib.Core.List.{List, []}
 use borrow.Author.Tests.{ne-eqb}
+use Rattle.codec.specs.Codec.{current}
 use Rattle.plan.specs.declared.plan.Plan.{Plan}
 use Rattle.refusals.specs.Outcome.{Outcome, taken, andThen}
 use Rattle.plan.specs.Calls.{judged}
@@ -21,12 +22,12 @@ begin-judged p i cells = then-same (judged p) _ _ (λ e. ap (andThen (judgeBoard
 
 module _ (p : Plan) (i : ℕ) (cells : List ℕ) where
   pub begin-refused : (o : Outcome) → o ≡ judgeBeginning p i cells → o .number ≢ 0
-      → record { answer = o; board = boardWith voidRecord cells } ≡ beginning p i cells
+      → record { answer = o; board = boardWith voidRecord cells } ≡ beginning current p i cells
   unfolding beginning isTaken
   begin-refused o e ne = rw (sym e, ne-eqb (o .number) 0 ne) refl
 
   pub begin-taken : taken [] ≡ judgeBeginning p i cells
-      → record { answer = taken []; board = boardWith (freshRecord p i) (cleared (p .n) cells) } ≡ beginning p i cells
+      → record { answer = taken []; board = boardWith (freshRecord p i) (cleared current (p .n) cells) } ≡ beginning current p i cells
   unfolding beginning isTaken
   begin-taken e = rw (sym e) refl
 

@@ -12,6 +12,7 @@ use refusals::refusal::and_then;
 use schedule::rounds::Round;
 use schedule::rounds::Run;
 ghost use mathlib.Core.Path.{_≡_};
+ghost use Rattle.codec.specs.Codec.{current};
 ghost use Rattle.refusals.specs.Outcome.{verdict};
 ghost use Rattle.protocol.specs.Rounds.{boardWith};
 ghost use Rattle.protocol.specs.Calls.{freshRecord, voidRecord, judgeBeginning, beginning};
@@ -67,7 +68,7 @@ fn judge_begin(plan: Plan, board: u8, cells: &[Value]) -> Verdict
 
 // Beginning a board.
 pub fn begin(plan: Plan, board: u8, cells: &mut [Value]) -> Begun
-    ensures { λ r. ⌜ record { answer = verdict (r .answer); board = boardWith (r .rec) (now (cells .exit)) } ≡ beginning plan board (now (cells .entry)) ⌝ }
+    ensures { λ r. ⌜ record { answer = verdict (r .answer); board = boardWith (r .rec) (now (cells .exit)) } ≡ beginning current plan board (now (cells .entry)) ⌝ }
 {
     match judge_begin(plan, board, cells) {
         Verdict::Refused(why) => {

@@ -13,12 +13,13 @@ ghost use mathlib.Core.Bool.{cond};
 ghost use mathlib.Core.List.{[]};
 ghost use lib.Dec.{ltb};
 ghost use lib.ListN.{length};
+ghost use Rattle.codec.specs.Codec.{current};
 ghost use Rattle.sheet.specs.Playing.{benchPrints};
 ghost use Rattle.bench.specs.Printing.{Prints};
 
 // What is printed for a sheet: how many bytes of the output. Nothing if a refusal does not fit.
 fn print_sheet(text: &[u8], cells: &mut [Value], out: &mut [u8]) -> usize
-    ensures { λ r. ⌜ Prints r (now (out .exit)) (cond (ltb (length (now (out .entry))) 9) [] (benchPrints (now (text .entry)) (now (cells .entry)) (now (out .entry)))) ⌝ }
+    ensures { λ r. ⌜ Prints r (now (out .exit)) (cond (ltb (length (now (out .entry))) 9) [] (benchPrints current (now (text .entry)) (now (cells .entry)) (now (out .entry)))) ⌝ }
 {
     let answer = play(text, cells, out);
     report(answer, out)

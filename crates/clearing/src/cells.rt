@@ -5,15 +5,15 @@ use plan::plan::Plan;
 ghost use mathlib.Core.Path.{_≡_};
 ghost use mathlib.Core.List.{_++_};
 ghost use lib.ListN.{drop, replicate};
+ghost use Rattle.codec.specs.Codec.{current, blank};
 ghost use Rattle.tree.specs.Places.{cellCount};
-ghost use Rattle.tree.specs.Cells.{blank};
 ghost use Rattle.protocol.specs.Rounds.{rootOnly};
 ghost use Rattle.clearing.specs.Clearing.{Clearable};
 
 // All cells of a board hold FF; surplus cells stay.
 pub fn clear(plan: Plan, cells: &mut [Value])
     requires { ⌜ Clearable plan (now cells) ⌝ }
-    ensures { λ _. ⌜ now (cells .exit) ≡ replicate (cellCount (plan .n)) blank ++ drop (cellCount (plan .n)) (now (cells .entry)) ⌝ }
+    ensures { λ _. ⌜ now (cells .exit) ≡ replicate (cellCount (plan .n)) (blank current) ++ drop (cellCount (plan .n)) (now (cells .entry)) ⌝ }
 {
     let count = cell_count(plan.n);
     let mut i: usize = 0;
@@ -26,7 +26,7 @@ pub fn clear(plan: Plan, cells: &mut [Value])
 // The root becomes the first cell, all other cells of the board hold FF.
 pub fn keep_root(plan: Plan, root: Value, cells: &mut [Value])
     requires { ⌜ Clearable plan (now cells) ⌝ }
-    ensures { λ _. ⌜ now (cells .exit) ≡ rootOnly (plan .n) root (now (cells .entry)) ⌝ }
+    ensures { λ _. ⌜ now (cells .exit) ≡ rootOnly current (plan .n) root (now (cells .entry)) ⌝ }
 {
     clear(plan, cells);
     cells[0] = root;

@@ -6,7 +6,7 @@ use mathlib.Core.List.{List, _++_, map}
 use native.Mathlib.Omega.{arith}
 use lib.ListN.{length, take, drop, length-map}
 use lib.Seq.{take-at}
-use Rattle.codec.specs.Codec.{width, encode, decode}
+use Rattle.codec.specs.Codec.{current, valueSize, encode, decode}
 use Rattle.codec.proofs.Codec.{decode-encode, length-encode}
 use Rattle.plan.specs.declared.plan.Plan.{Plan}
 use Rattle.schedule.specs.declared.rounds.Round.{Round}
@@ -22,13 +22,13 @@ module _ {p : Plan} {holders : List ℕ} {i : ℕ} {k : Round} (s : Standing p h
   own = carried p i i (k .0 - 1)
 
   pub own-copied : (count : ℕ) (nodes written blank : List ℕ) → count ≡ length own → labelsOf p (k .0 - 1) nodes ≡ own
-      → written ≡ encode (map (read p cells) (labelsOf p (k .0 - 1) nodes)) ++ drop (width * length nodes) blank
-      → fill p i (labelsOf p (k .0 - 1) nodes) (decode (take (width * count - 0) written)) cells ≡ copyOwn p i k cells
+      → written ≡ encode current (map (read p cells) (labelsOf p (k .0 - 1) nodes)) ++ drop (valueSize current * length nodes) blank
+      → fill p i (labelsOf p (k .0 - 1) nodes) (decode current (take (valueSize current * count - 0) written)) cells ≡ copyOwn p i k cells
   unfolding copyOwn frame
   own-copied count nodes written blank e labels x =
       let αs = labelsOf p (k .0 - 1) nodes in
       let f = map (read p cells) αs in
-      let size : length (encode f) ≡ width * count - 0 = omega (arith, length-encode f, length-map αs (read p cells), ap length labels) in
-      let front = ap (take (width * count - 0)) x ∙ take-at (encode f) (drop (width * length nodes) blank) (width * count - 0) size in
-      ap (λ vs. fill p i αs vs cells) (ap decode front ∙ decode-encode f)
+      let size : length (encode current f) ≡ valueSize current * count - 0 = omega (arith, length-encode current f, length-map αs (read p cells), ap length labels) in
+      let front = ap (take (valueSize current * count - 0)) x ∙ take-at (encode current f) (drop (valueSize current * length nodes) blank) (valueSize current * count - 0) size in
+      ap (λ vs. fill p i αs vs cells) (ap (decode current) front ∙ decode-encode current f)
       ∙ ap (λ βs. fill p i βs (map (read p cells) βs) cells) (labels ∙ sym (sent-carried s later i))

@@ -9,7 +9,7 @@ use native.Mathlib.Omega.{arith}
 use lib.Dec.{eqb, ltb}
 use lib.ListN.{length, replicate, drop}
 use borrow.Author.Tests.{eqb-true, ltb-true}
-use Rattle.codec.specs.Codec.{encode, decode, numberAt}
+use Rattle.codec.specs.Codec.{blank, encode, decode, numberAt}
 use Rattle.sets.specs.Search.{first, any, count}
 use Rattle.sets.specs.Tabulate.{tabulate}
 use Rattle.sets.specs.Sets.{member, union, insert, within, boards, setOf, size}
@@ -29,7 +29,7 @@ use Rattle.settings.specs.Planning.{isDepth, judgeSettings, planning}
 use Rattle.plan.specs.Calls.{planOn, judged}
 use Rattle.tree.specs.Labels.{occurs, mask, last, childrenFrom, children, childrenOf}
 use Rattle.tree.specs.Places.{levelSize, levelStart, cellCount, ordinal, rank, place}
-use Rattle.tree.specs.Cells.{blank, cellAt, store}
+use Rattle.tree.specs.Cells.{cellAt, store}
 use Rattle.plan.specs.Values.{default, value}
 use Rattle.protocol.specs.Nodes.{read, filter, internal, nodes, inner, carried, sent, due, frame}
 use Rattle.protocol.specs.declared.records.Rule.the-variants as Rule

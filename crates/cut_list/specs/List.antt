@@ -4,6 +4,7 @@ use mathlib.Core.Bool.{cond}
 use mathlib.Core.List.{List, [], _∷_}
 use lib.Dec.{eqb}
 use lib.ListN.{replicate, take}
+use Rattle.codec.specs.Codec.{one}
 use Rattle.plan.specs.Calls.{planOn}
 use Rattle.protocol.specs.Session.{Setting}
 use Rattle.agreement.specs.Lists.{Call, receives, sends, closes, decides}
@@ -12,6 +13,7 @@ use Rattle.agreement.specs.Lists.{Call, receives, sends, closes, decides}
 -- Board 2 lent three cells too many.
 unfoldable pub cutSetting : Setting
 cutSetting = record {
+  width = one;
   plan = planOn 6 (58 ∷ 1 ∷ []) (record { dealer = 1; span = 2; default = 0; depth = 4 });
   faulty = 58;
   word = 0;

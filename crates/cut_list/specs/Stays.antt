@@ -5,6 +5,7 @@ use mathlib.Core.Bool.{cond}
 use mathlib.Core.List.{List, [], _∷_}
 use lib.Dec.{eqb}
 use lib.ListN.{replicate, take}
+use Rattle.codec.specs.Codec.{one}
 use Rattle.plan.specs.Calls.{planOn}
 use Rattle.protocol.specs.Session.{Setting}
 use Rattle.agreement.specs.Lists.{Call, receives, sends, closes}
@@ -12,6 +13,7 @@ use Rattle.agreement.specs.Lists.{Call, receives, sends, closes}
 -- n = 5, the set {0, 1, 2, 3}, dealer 0, values below 16, depth 4. F = {0, 1, 2} has the dealer; boards 3 and 4 have records.
 unfoldable pub staysSetting : Setting
 staysSetting = record {
+  width = one;
   plan = planOn 5 (15 ∷ []) (record { dealer = 0; span = 16; default = 0; depth = 4 });
   faulty = 7;
   word = 0;

@@ -8,7 +8,7 @@ use mathlib.Core.List.{[], _∷_}
 use native.Mathlib.Omega.{arith}
 use lib.Dec.{eqb, leb}
 use borrow.Author.Tests.{eqb-true, eqb-false}
-use Rattle.codec.specs.Codec.{encode}
+use Rattle.codec.specs.Codec.{current, encode}
 use Rattle.sets.proofs.Tests.{cases}
 use Rattle.plan.specs.declared.plan.Plan.{Plan}
 use Rattle.refusals.specs.Outcome.{Outcome, taken, refused, andThen}
@@ -20,19 +20,19 @@ module _ (p : Plan) (v : ℕ) where
   abbrev pub valued : Outcome
   valued = cond (leb (p .span) v) (refused 18) (taken [])
 
-  deal-high : leb (p .span) v ≡ true → judged p .number ≡ 0 → (andThen (judged p) valued ≡ refused 18) × (dealing p v ≡ refused 18)
+  deal-high : leb (p .span) v ≡ true → judged p .number ≡ 0 → (andThen (judged p) valued ≡ refused 18) × (dealing current p v ≡ refused 18)
   unfolding dealing
   deal-high h e = (taken-first (judged p) valued e ∙ rw h refl, taken-first (judged p) _ e ∙ rw h refl)
 
-  deal-low : leb (p .span) v ≡ false → judged p .number ≡ 0 → (andThen (judged p) valued ≡ taken []) × (dealing p v ≡ taken (v ∷ []))
+  deal-low : leb (p .span) v ≡ false → judged p .number ≡ 0 → (andThen (judged p) valued ≡ taken []) × (dealing current p v ≡ taken (v ∷ []))
   unfolding dealing encode
   deal-low h e = (taken-first (judged p) valued e ∙ rw h refl, taken-first (judged p) _ e ∙ rw h refl)
 
-  deal-bad : judged p .number ≢ 0 → (andThen (judged p) valued ≡ judged p) × (dealing p v ≡ judged p)
+  deal-bad : judged p .number ≢ 0 → (andThen (judged p) valued ≡ judged p) × (dealing current p v ≡ judged p)
   unfolding dealing
   deal-bad ne = (refused-first (judged p) valued ne, refused-first (judged p) _ ne)
 
-  pub deal-refused : (o : Outcome) → o ≡ andThen (judged p) valued → o .number ≢ 0 → o ≡ dealing p v
+  pub deal-refused : (o : Outcome) → o ≡ andThen (judged p) valued → o .number ≢ 0 → o ≡ dealing current p v
   deal-refused o e ne =
       cases (eqb (judged p .number) 0)
       (λ g. cases (leb (p .span) v)
@@ -40,7 +40,7 @@ module _ (p : Plan) (v : ℕ) where
       (λ h. let (x, y) = deal-low h (eqb-true (judged p .number) 0 g) in absurd (ne (ap (λ (z : Outcome). z .number) (e ∙ x)))))
       (λ g. let (x, y) = deal-bad (eqb-false (judged p .number) 0 g) in e ∙ x ∙ sym y)
 
-  pub deal-taken : taken [] ≡ andThen (judged p) valued → taken (v ∷ []) ≡ dealing p v
+  pub deal-taken : taken [] ≡ andThen (judged p) valued → taken (v ∷ []) ≡ dealing current p v
   deal-taken e =
       let g = both-taken (judged p) valued (ap (λ (z : Outcome). z .number) (sym e)) .0 in
       cases (leb (p .span) v)

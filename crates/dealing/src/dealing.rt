@@ -9,6 +9,7 @@ ghost use mathlib.Core.Path.{_≡_};
 ghost use mathlib.Core.Bool.{cond};
 ghost use mathlib.Core.List.{[]};
 ghost use lib.Dec.{leb};
+ghost use Rattle.codec.specs.Codec.{current};
 ghost use Rattle.refusals.specs.Outcome.{taken, refused, verdict};
 ghost use Rattle.protocol.specs.Answers.{dealtSays};
 ghost use Rattle.protocol.specs.Calls.{dealing};
@@ -26,7 +27,7 @@ fn judge_value(plan: Plan, value: Value) -> Verdict
 
 // The dealer's frame: 1 to 7, 26, 8, then 18.
 pub fn deal(plan: Plan, value: Value) -> Dealt
-    ensures { λ r. ⌜ dealtSays r ≡ dealing plan value ⌝ }
+    ensures { λ r. ⌜ dealtSays r ≡ dealing current plan value ⌝ }
 {
     let plan_judged = plan.judge();
     let value_judged = judge_value(plan, value);

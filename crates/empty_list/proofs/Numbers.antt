@@ -10,7 +10,7 @@ use native.Mathlib.Omega.{arith}
 use lib.Dec.{eqb, leb, ltb}
 use lib.ListN.{length}
 use borrow.Author.Tests.{eqb-true, eqb-false}
-use Rattle.codec.specs.Codec.{encode}
+use Rattle.codec.specs.Codec.{Width, encode}
 use Rattle.sets.specs.Search.{any}
 use Rattle.sets.specs.Sets.{member, within, boards}
 use Rattle.sets.specs.Structure.{tolerated}
@@ -84,9 +84,9 @@ opens b =
     (in-order (judgeCells (b .rec .plan) (b .cells)) _ (judges-cells (b .rec .plan) (b .cells))
     (either (b .rec .decided) (refused 13) (taken []) (omega arith) (omega arith)))
 
-begins : (p : Plan) (i : ℕ) (cells : List ℕ) → Other (beginning p i cells .answer)
+begins : (w : Width) (p : Plan) (i : ℕ) (cells : List ℕ) → Other (beginning w p i cells .answer)
 unfolding beginning judgeBeginning judgeBoard judgeNumber judgeOther
-begins p i cells =
+begins w p i cells =
     in-order (judged p) _ (judges p)
     (in-order (judgeBoard p i) (judgeCells p cells)
     (in-order (judgeNumber p i) (judgeOther p i)
@@ -94,9 +94,9 @@ begins p i cells =
     (either (eqb i (p .dealer)) (refused 10) (taken []) (omega arith) (omega arith)))
     (judges-cells p cells))
 
-deals : (p : Plan) (v : ℕ) → Other (dealing p v)
+deals : (w : Width) (p : Plan) (v : ℕ) → Other (dealing w p v)
 unfolding dealing
-deals p v = in-order (judged p) _ (judges p) (either (leb (p .span) v) (refused 18) (taken (encode (v ∷ []))) (omega arith) (omega arith))
+deals w p v = in-order (judged p) _ (judges p) (either (leb (p .span) v) (refused 18) (taken (encode w (v ∷ []))) (omega arith) (omega arith))
 
 receives : (b : Board) (q : ℕ) (f : List ℕ) → Other (receiving b q f .answer)
 unfolding receiving taking judgeReceiving
@@ -138,52 +138,52 @@ frames h before line (l ∷ ls) = go (λ f. frames h (some f) (suc line) ls) (li
         (λ b. subst Read (sym (frames-right h before line l ls bytes e b)) (ih (frameLine bytes)))
         (λ b. subst Read (sym (frames-wrong h before line l ls bytes e b)) (omega arith))
 
-heads : (bytes : List ℕ) → Other (judgeHead bytes)
+heads : (w : Width) (bytes : List ℕ) → Other (judgeHead w bytes)
 unfolding judgeHead
-heads bytes =
+heads w bytes =
     let n = headBoards bytes in
-    let sets = headSets bytes in
-    let settings = headSettings bytes in
-    let f = headFaulty bytes in
-    let short = ltb (length bytes) (headLength 0) || not (eqb (length bytes) (headLength (headCount bytes))) in
-    let word = cond (leb (settings .span) (headWord bytes)) (refused 18) (taken []) in
+    let sets = headSets w bytes in
+    let settings = headSettings w bytes in
+    let f = headFaulty w bytes in
+    let short = ltb (length bytes) (headLength w 0) || not (eqb (length bytes) (headLength w (headCount w bytes))) in
+    let word = cond (leb (settings .span) (headWord w bytes)) (refused 18) (taken []) in
     let faulty = cond (within f (boards n) && tolerated sets f) (taken []) (refused 23) in
-    let plan = planning n (headCount bytes) sets settings in
+    let plan = planning n (headCount w bytes) sets settings in
     either short (refused 22) (andThen plan (andThen word faulty)) (omega arith)
-    (in-order plan (andThen word faulty) (plans n (headCount bytes) sets settings)
+    (in-order plan (andThen word faulty) (plans n (headCount w bytes) sets settings)
     (in-order word faulty
-    (either (leb (settings .span) (headWord bytes)) (refused 18) (taken []) (omega arith) (omega arith))
+    (either (leb (settings .span) (headWord w bytes)) (refused 18) (taken []) (omega arith) (omega arith))
     (either (within f (boards n) && tolerated sets f) (taken []) (refused 23) (omega arith) (omega arith))))
 
-reads-head : (bytes : List ℕ) (ls : List Line) → Read (readHead bytes ls)
+reads-head : (w : Width) (bytes : List ℕ) (ls : List Line) → Read (readHead w bytes ls)
 unfolding refusedReading wrongAt
-reads-head bytes ls =
-    cases (eqb (judgeHead bytes .number) 0)
-    (λ e. subst Read (sym (head-right bytes ls (eqb-true (judgeHead bytes .number) 0 e))) (frames (headOf bytes) none 2 ls))
-    (λ e. subst Read (sym (head-wrong bytes ls (eqb-false (judgeHead bytes .number) 0 e))) (heads bytes))
+reads-head w bytes ls =
+    cases (eqb (judgeHead w bytes .number) 0)
+    (λ e. subst Read (sym (head-right w bytes ls (eqb-true (judgeHead w bytes .number) 0 e))) (frames (headOf w bytes) none 2 ls))
+    (λ e. subst Read (sym (head-wrong w bytes ls (eqb-false (judgeHead w bytes .number) 0 e))) (heads w bytes))
 
-reads-lines : (ls : List Line) → Read (readLines ls)
+reads-lines : (w : Width) (ls : List Line) → Read (readLines w ls)
 unfolding readLines refusedReading wrongAt
-reads-lines [] = omega arith
-reads-lines (l ∷ ls) = go (lineBytes l) refl
+reads-lines w [] = omega arith
+reads-lines w (l ∷ ls) = go (lineBytes l) refl
   where
-    go : (o : Option (List ℕ)) → lineBytes l ≡ o → Read (readLines (l ∷ ls))
-    go none e = subst Read (sym (lines-text l ls e)) (omega arith)
-    go (some bytes) e = subst Read (sym (lines-head l ls bytes e)) (reads-head bytes ls)
+    go : (o : Option (List ℕ)) → lineBytes l ≡ o → Read (readLines w (l ∷ ls))
+    go none e = subst Read (sym (lines-text w l ls e)) (omega arith)
+    go (some bytes) e = subst Read (sym (lines-head w l ls bytes e)) (reads-head w bytes ls)
 
 -- An answer of playing by a test.
 either-play : (b : Bool) (x y : Play) → Other (x .answer) → Other (y .answer) → Other (cond b x y .answer)
 either-play true x y u v = u
 either-play false x y u v = v
 
-plays : (text cells out : List ℕ) → Other (playing text cells out .answer)
+plays : (w : Width) (text cells out : List ℕ) → Other (playing w text cells out .answer)
 unfolding playing refusedPlay playHead wrongAt reading
-plays text cells out =
-    let r = reading text in
+plays w text cells out =
+    let r = reading w text in
     either-play (ltb sheetMost (length text)) (refusedPlay (wrongAt 0 (refused 20)) cells out) _ (omega arith)
-    (either-play (ltb (length out) outputNeeded) (refusedPlay (wrongAt 0 (refused 17)) cells out) _ (omega arith)
+    (either-play (ltb (length out) (outputNeeded w)) (refusedPlay (wrongAt 0 (refused 17)) cells out) _ (omega arith)
     (either-play (ltb (length cells) cellsNeeded) (refusedPlay (wrongAt 0 (refused 11)) cells out) _ (omega arith)
-    (either-play (eqb (r .answer .number) 0) (playHead (r .head) (r .frames) cells out) (refusedPlay (r .answer) cells out) (omega arith) (reads-lines (lines text)))))
+    (either-play (eqb (r .answer .number) 0) (playHead w (r .head) (r .frames) cells out) (refusedPlay (r .answer) cells out) (omega arith) (reads-lines w (lines text)))))
 
 pub never-two : NeverTwo
 never-two = record {

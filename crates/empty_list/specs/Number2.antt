@@ -2,6 +2,7 @@
 use Prim.Native.Nat.{ℕ}
 use mathlib.Core.Logic.{_≢_}
 use mathlib.Core.List.{List}
+use Rattle.codec.specs.Codec.{Width}
 use Rattle.plan.specs.declared.plan.Plan.{Plan}
 use Rattle.settings.specs.declared.settings.Settings.{Settings}
 use Rattle.admission.specs.Calls.{admitting}
@@ -15,10 +16,10 @@ use Rattle.sheet.specs.Playing.{playing}
 pub record NeverTwo : Type 0 where
   pub admitting : (n count : ℕ) (sets : List ℕ) → admitting n count sets .number ≢ 2
   pub planning : (n count : ℕ) (sets : List ℕ) (s : Settings) → planning n count sets s .number ≢ 2
-  pub beginning : (p : Plan) (i : ℕ) (cells : List ℕ) → beginning p i cells .answer .number ≢ 2
-  pub dealing : (p : Plan) (v : ℕ) → dealing p v .number ≢ 2
+  pub beginning : (w : Width) (p : Plan) (i : ℕ) (cells : List ℕ) → beginning w p i cells .answer .number ≢ 2
+  pub dealing : (w : Width) (p : Plan) (v : ℕ) → dealing w p v .number ≢ 2
   pub receiving : (b : Board) (q : ℕ) (f : List ℕ) → receiving b q f .answer .number ≢ 2
   pub sending : (b : Board) (out : List ℕ) → sending b out .answer .number ≢ 2
   pub closing : (b : Board) → closing b .answer .number ≢ 2
   pub deciding : (r : Record) → deciding r .number ≢ 2
-  pub playing : (text cells out : List ℕ) → playing text cells out .answer .number ≢ 2
+  pub playing : (w : Width) (text cells out : List ℕ) → playing w text cells out .answer .number ≢ 2

@@ -8,7 +8,7 @@ use native.Mathlib.Omega.{arith}
 use lib.Dec.{eqb, ltb}
 use lib.ListN.{length, replicate}
 use borrow.Author.Tests.{ltb-true}
-use Rattle.codec.specs.Codec.{encode, decode, numberAt}
+use Rattle.codec.specs.Codec.{blank, encode, decode, numberAt}
 use Rattle.sets.specs.Search.{first, any, count}
 use Rattle.sets.specs.Tabulate.{tabulate}
 use Rattle.sets.specs.Sets.{member, union, insert, within, boards, setOf, size}
@@ -27,7 +27,7 @@ use Rattle.heights.specs.Levels.{largest, height, isCut}
 use Rattle.schedule.specs.Schedule.{rounds, runs, firstRound, hasRound}
 use Rattle.tree.specs.Labels.{occurs, mask, last}
 use Rattle.tree.specs.Places.{levelSize, levelStart, cellCount, ordinal, rank, place}
-use Rattle.tree.specs.Cells.{blank, cellAt, store}
+use Rattle.tree.specs.Cells.{cellAt, store}
 use Rattle.protocol.specs.Nodes.{read, filter, internal, nodes, inner, carried, sent, due, frame}
 use Rattle.protocol.specs.Listing.{noEntries, entryAt, hasEntry, levelOf, join, asSet}
 use Rattle.protocol.specs.Detection.{vote, resolve, resolveRoot, explained, byCell, byResolving, passes, maskBoard, detectG, detectAllG, detectC, detectAllC, detectLevels}

@@ -3,6 +3,7 @@ use mathlib.Core.Bool.{cond}
 use mathlib.Core.List.{List, [], _∷_, _++_}
 use lib.Dec.{eqb}
 use lib.ListN.{replicate}
+use Rattle.codec.specs.Codec.{one}
 use Rattle.refusals.specs.Outcome.{Outcome, taken, refused}
 use Rattle.plan.specs.Calls.{planOn}
 use Rattle.protocol.specs.Session.{Setting}
@@ -11,6 +12,7 @@ use Rattle.agreement.specs.Lists.{Call, receives, sends, closes, decides, calle
 -- n = 4, the sets of one board each, dealer 0 with 5, F = {3}. Boards 1 and 2 have records; board 2 lent one cell too many.
 unfoldable pub exampleSetting : Setting
 exampleSetting = record {
+  width = one;
   plan = planOn 4 (1 ∷ 2 ∷ 4 ∷ 8 ∷ []) (record { dealer = 0; span = 16; default = 9; depth = 0 });
   faulty = 8;
   word = 5;

@@ -7,6 +7,7 @@ use native.Mathlib.Numerals.{add-one}
 use native.Mathlib.Omega.{arith}
 use lib.ListN.{take, set, replicate}
 use lib.Seq.{set-at, take-at, append-snoc}
+use Rattle.codec.specs.Codec.{current}
 use Rattle.sheet.specs.Sheet.{setsPlace}
 use Rattle.hex.specs.Bytes.{byteAt, bytesFrom}
 use Rattle.hex.proofs.Bytes.{bytes-length, bytes-more}
@@ -14,25 +15,25 @@ use Rattle.hex.proofs.Bytes.{bytes-length, bytes-more}
 module _ (line : List ℕ) where
   -- The first k sets, and 00 in the other slots.
   abbrev pub slots : ℕ → List ℕ
-  slots k = bytesFrom line setsPlace k ++ replicate (255 - k) 0
+  slots k = bytesFrom line (setsPlace current) k ++ replicate (255 - k) 0
 
   pub slots-start : replicate 255 0 ≡ slots 0
   unfolding bytesFrom
   slots-start = refl
 
-  pub slots-more : (k : ℕ) → k < 255 → set (slots k) k (byteAt line (k + setsPlace)) ≡ slots (k + 1)
+  pub slots-more : (k : ℕ) → k < 255 → set (slots k) k (byteAt line (k + setsPlace current)) ≡ slots (k + 1)
   slots-more k l =
       let r : replicate {A = ℕ} (255 - k) 0 ≡ 0 ∷ replicate (255 - (k + 1)) 0 =
       ap (λ m. replicate {A = ℕ} m 0) (let z : 255 - k ≡ suc (255 - (k + 1)) = omega arith in z) in
-      let v = byteAt line (k + setsPlace) in
-      let more : bytesFrom line setsPlace (k + 1) ≡ bytesFrom line setsPlace k ++ (v ∷ []) =
-      ap (bytesFrom line setsPlace) (add-one k) ∙ bytes-more line setsPlace k ∙ ap (λ x. bytesFrom line setsPlace k ++ (byteAt line x ∷ [])) (let z : setsPlace + k ≡ k + setsPlace = omega arith in z) in
-      ap (λ x. set (bytesFrom line setsPlace k ++ x) k v) r
-      ∙ set-at (bytesFrom line setsPlace k) 0 (replicate (255 - (k + 1)) 0) v k (bytes-length line setsPlace k)
-      ∙ sym (append-snoc (bytesFrom line setsPlace k) v (replicate (255 - (k + 1)) 0))
+      let v = byteAt line (k + setsPlace current) in
+      let more : bytesFrom line (setsPlace current) (k + 1) ≡ bytesFrom line (setsPlace current) k ++ (v ∷ []) =
+      ap (bytesFrom line (setsPlace current)) (add-one k) ∙ bytes-more line (setsPlace current) k ∙ ap (λ x. bytesFrom line (setsPlace current) k ++ (byteAt line x ∷ [])) (let z : setsPlace current + k ≡ k + setsPlace current = omega arith in z) in
+      ap (λ x. set (bytesFrom line (setsPlace current) k ++ x) k v) r
+      ∙ set-at (bytesFrom line (setsPlace current) k) 0 (replicate (255 - (k + 1)) 0) v k (bytes-length line (setsPlace current) k)
+      ∙ sym (append-snoc (bytesFrom line (setsPlace current) k) v (replicate (255 - (k + 1)) 0))
       ∙ ap (λ x. x ++ replicate (255 - (k + 1)) 0) (sym more)
 
   -- The part of the slots that holds the sets.
-  pub slots-part : (k : ℕ) (sets : List ℕ) → sets ≡ slots k → take (k - 0) sets ≡ bytesFrom line setsPlace k
+  pub slots-part : (k : ℕ) (sets : List ℕ) → sets ≡ slots k → take (k - 0) sets ≡ bytesFrom line (setsPlace current) k
   slots-part k sets e =
-      ap₂ take (let z : k - 0 ≡ k = omega arith in z) e ∙ take-at (bytesFrom line setsPlace k) (replicate (255 - k) 0) k (bytes-length line setsPlace k)
+      ap₂ take (let z : k - 0 ≡ k = omega arith in z) e ∙ take-at (bytesFrom line (setsPlace current) k) (replicate (255 - k) 0) k (bytes-length line (setsPlace current) k)

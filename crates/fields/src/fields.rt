@@ -20,6 +20,7 @@ ghost use mathlib.Core.List.{[], _++_};
 ghost use Prim.Native.Nat.{_-_, min};
 ghost use lib.Dec.{leb};
 ghost use lib.ListN.{replicate};
+ghost use Rattle.codec.specs.Codec.{current};
 ghost use Rattle.sets.specs.Sets.{within, boards};
 ghost use Rattle.sets.specs.Structure.{tolerated};
 ghost use Rattle.refusals.specs.Outcome.{taken, refused, verdict};
@@ -29,7 +30,7 @@ ghost use Rattle.fields.specs.Settings.{lineSettings};
 
 // The sets of a head, in 255 slots.
 pub fn sets_of(line: &[u8], count: u8) -> [u8; 255]
-    ensures { λ r. ⌜ r ≡ bytesFrom (now (line .entry)) setsPlace count ++ replicate (255 - count) 0 ⌝ }
+    ensures { λ r. ⌜ r ≡ bytesFrom (now (line .entry)) (setsPlace current) count ++ replicate (255 - count) 0 ⌝ }
 {
     let mut sets = [0u8; 255];
     let mut k: u8 = 0;

@@ -6,12 +6,11 @@ use mathlib.Core.Bool.{false}
 use mathlib.Core.List.{List, _∷_}
 use native.Mathlib.Omega.{arith}
 use lib.ListN.{length, getD}
-use Rattle.holders.proofs.Held.{getD-any}
 use Rattle.plan.specs.declared.plan.Plan.{Plan}
 use Rattle.plan.specs.Values.{value}
 use Rattle.tree.specs.Labels.{Label, occurs, mask, labelAt}
 use Rattle.tree.specs.Places.{levelSize, levelStart, cellCount, rank, place, childIndex, startWithin}
-use Rattle.tree.specs.Cells.{blank, cellAt}
+use Rattle.tree.specs.Cells.{cellAt}
 use Rattle.tree.proofs.ChildIndex.{child-index}
 use Rattle.tree.proofs.Labels.{label-length}
 use Rattle.tree.proofs.NodePlaces.{child-mem, at-mem, at-rank, at-place}
@@ -45,6 +44,6 @@ module _ (n d k i : ℕ) (l : d < n) (h : i < levelSize n k) where
       let y : j ≡ childIndex n k i (mask (labelAt n d k i)) q = b ∙ ap (λ z. childIndex n k i z q) e in
       rw (x, y) (sym (child-at q))
 
-pub read-place : (p : Plan) (cells : List ℕ) (α : Label) (i : ℕ) → i ≡ place (p .n) α → i < length cells → value p (getD cells i 0) ≡ read p cells α
+pub read-place : (p : Plan) (cells : List ℕ) (α : Label) (i : ℕ) → i ≡ place (p .n) α → value p (getD cells i 0) ≡ read p cells α
 unfolding read cellAt
-read-place p cells α i e h = ap (value p) (getD-any cells i 0 blank h ∙ ap (λ j. getD cells j blank) e)
+read-place p cells α i e = ap (λ j. value p (getD cells j 0)) e

@@ -11,7 +11,7 @@ use lib.Dec.{eqb, ltb}
 use lib.ListN.{length, getD, take, drop, set, drop-of-length-le, length-map}
 use lib.Seq.{drop-cons, take-suc, length-take-le}
 use borrow.Author.Tests.{eq-eqb, ne-eqb, ltb-true, ltb-false, lt-ltb, le-ltb}
-use Rattle.codec.specs.Codec.{width, encode, written}
+use Rattle.codec.specs.Codec.{current, valueSize, encode, written}
 use Rattle.codec.proofs.Codec.{written-next}
 use Rattle.sets.specs.Sets.{member}
 use Rattle.sets.proofs.Tests.{cases}
@@ -51,17 +51,17 @@ fill-step p q α αs βs u at v vs cells x y z =
 
 -- The values of the first u labels are written; then one more.
 abbrev pub sofar : Plan → List ℕ → List Label → ℕ → List ℕ → List ℕ
-sofar p cells αs u out = encode (map (read p cells) (take u αs)) ++ drop (width * u) out
+sofar p cells αs u out = encode current (map (read p cells) (take u αs)) ++ drop (valueSize current * u) out
 
 pub write-step : (p : Plan) (cells out : List ℕ) (αs : List Label) (u v : ℕ) → u < length αs → v ≡ read p cells (getD αs u [])
-    → written u v (sofar p cells αs u out) ≡ sofar p cells αs (u + 1) out
+    → written current u v (sofar p cells αs u out) ≡ sofar p cells αs (u + 1) out
 write-step p cells out αs u v l e =
     let vs = map (read p cells) (take u αs) in
     let size : length vs ≡ u = length-map (take u αs) (read p cells) ∙ length-take-le u αs (omega arith) in
     let more : map (read p cells) (take (suc u) αs) ≡ vs ++ (v ∷ []) =
     ap (map (read p cells)) (take-suc αs u [] l) ∙ map-append (read p cells) (take u αs) (getD αs u [] ∷ []) ∙ ap (λ x. vs ++ (x ∷ [])) (sym e) in
-    written-next vs out v u size
-    ∙ ap (λ ws. encode ws ++ drop (width * suc u) out) (sym more)
+    written-next current vs out v u size
+    ∙ ap (λ ws. encode current ws ++ drop (valueSize current * suc u) out) (sym more)
     ∙ ap (λ k. sofar p cells αs k out) (let z : suc u ≡ u + 1 = omega arith in z)
 
 -- What a frame counts as.

@@ -15,7 +15,7 @@ use Rattle.plan.specs.Calls.{judged}
 use Rattle.schedule.specs.declared.rounds.Round.{Round}
 use Rattle.schedule.specs.Schedule.{rounds}
 use Rattle.tree.specs.Labels.{Label, occurs, mask, last, labelAt}
-use Rattle.codec.specs.Codec.{width}
+use Rattle.codec.specs.Codec.{current, valueSize}
 use Rattle.tree.specs.Places.{levelSize, cellCount}
 
 -- A board that keeps cells, in a round of an accepted plan, with the plan's table of holders.
@@ -96,7 +96,7 @@ pub record Storable (p : Plan) (level q : ℕ) (nodes cells : List ℕ) : Type 0
 pub record Writable (p : Plan) (level : ℕ) (nodes cells out : List ℕ) : Type 0 where
   pub are-nodes : Nodes p level nodes
   pub enough : cellCount (p .n) ≤ length cells
-  pub room : width * length nodes ≤ length out
+  pub room : valueSize current * length nodes ≤ length out
 
 -- Value number i of a frame; the default where it has none.
 unfoldable pub entry : Plan → List ℕ → ℕ → ℕ

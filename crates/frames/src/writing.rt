@@ -11,7 +11,7 @@ ghost use mathlib.Core.Path.{_≡_};
 ghost use mathlib.Core.List.{map, _++_};
 ghost use Prim.Native.Nat.{_*_};
 ghost use lib.ListN.{length, drop};
-ghost use Rattle.codec.specs.Codec.{width, encode};
+ghost use Rattle.codec.specs.Codec.{current, valueSize, encode};
 ghost use Rattle.protocol.specs.Nodes.{read, due};
 ghost use Rattle.frames.specs.Nodes.{Standing, labelsOf, Writable};
 
@@ -40,7 +40,7 @@ pub fn is_due(plan: Plan, holders: &[u8], q: u8, board: u8, round: Round) -> boo
 // The values of the nodes' cells are written.
 pub fn write_at(plan: Plan, level: u8, nodes: &[u32], cells: &[Value], out: &mut [u8])
     requires { ⌜ Writable plan level (now nodes) (now cells) (now out) ⌝ }
-    ensures { λ _. ⌜ now (out .exit) ≡ encode (map (read plan (now (cells .entry))) (labelsOf plan level (now (nodes .entry)))) ++ drop (width * length (now (nodes .entry))) (now (out .entry)) ⌝ }
+    ensures { λ _. ⌜ now (out .exit) ≡ encode current (map (read plan (now (cells .entry))) (labelsOf plan level (now (nodes .entry)))) ++ drop (valueSize current * length (now (nodes .entry))) (now (out .entry)) ⌝ }
 {
     let start = level_start(plan.n, level);
     let mut i: usize = 0;

@@ -6,6 +6,7 @@ use mathlib.Core.List.{List}
 use mathlib.Core.Option.{Option, some}
 use native.Mathlib.Omega.{arith}
 use lib.ListN.{length, take}
+use Rattle.codec.specs.Codec.{current}
 use Rattle.protocol.specs.Limits.{frameRoom}
 use Rattle.protocol.specs.Rounds.{Board}
 use Rattle.protocol.specs.Calls.{receiving}
@@ -18,29 +19,29 @@ use Rattle.fetching.specs.Fetched.{Read, foundSays, readLength, readInto}
 use Rattle.fetching.proofs.FetchedFrame.{read-taken, read-frame-is, read-missed}
 
 -- With what the code has in hand: the buffer as it came, the answer, and the buffer with what was read.
-module _ (v : Option (List ℕ)) (buffer : List ℕ) (room : length buffer ≡ frameRoom) (found : Found) (last : List ℕ)
+module _ (v : Option (List ℕ)) (buffer : List ℕ) (room : length buffer ≡ frameRoom current) (found : Found) (last : List ℕ)
     (read : record { count = foundSays found; buffer = last } ≡ readInto v buffer) where
-  count-is : foundSays found ≡ readLength v frameRoom
+  count-is : foundSays found ≡ readLength v (frameRoom current)
   count-is = ap (λ (x : Read). x .count) read ∙ ap (readLength v) room
 
-  values-are : (k : ℕ) → found ≡ Values k → some k ≡ readLength v frameRoom
+  values-are : (k : ℕ) → found ≡ Values k → some k ≡ readLength v (frameRoom current)
   unfolding foundSays
   values-are k e = ap foundSays (sym e) ∙ count-is
 
-  pub read-missing : (q : ℕ) (b : Board) → found ≡ Missing → b ≡ handIn q (decoded v) b
+  pub read-missing : (q : ℕ) (b : Board) → found ≡ Missing → b ≡ handIn q (decoded current v) b
   unfolding handIn decoded foundSays
   read-missing q b e =
       let none-read = ap foundSays (sym e) ∙ count-is in
-      ap (λ x. handIn q (decoded x) b) (sym (read-missed v frameRoom (sym none-read)))
+      ap (λ x. handIn q (decoded current x) b) (sym (read-missed v (frameRoom current) (sym none-read)))
 
-  pub read-fits : (k : ℕ) → found ≡ Values k → k ≤ frameRoom
-  read-fits k e = let (vs, _, z) = read-frame-is v frameRoom k (sym (values-are k e)) in omega (arith, z)
+  pub read-fits : (k : ℕ) → found ≡ Values k → k ≤ frameRoom current
+  read-fits k e = let (vs, _, z) = read-frame-is v (frameRoom current) k (sym (values-are k e)) in omega (arith, z)
 
-  pub read-heard : (k q : ℕ) (b : Board) → found ≡ Values k → receiving b q (take (k - 0) last) .board ≡ handIn q (decoded v) b
+  pub read-heard : (k q : ℕ) (b : Board) → found ≡ Values k → receiving b q (take (k - 0) last) .board ≡ handIn q (decoded current v) b
   unfolding handIn decoded receiving
   read-heard k q b e =
       let taken = sym (values-are k e) in
-      let (vs, x, _) = read-frame-is v frameRoom k taken in
-      let whole : take (k - 0) last ≡ take frameRoom vs =
-      ap₂ take (let z : k - 0 ≡ k = omega arith in z) (ap (λ (y : Read). y .buffer) read) ∙ read-taken v vs buffer frameRoom k x room taken in
-      ap (λ f. receiving b q f .board) whole ∙ ap (λ y. y .board) (overlong b q vs) ∙ ap (λ x. handIn q (decoded x) b) (sym x)
+      let (vs, x, _) = read-frame-is v (frameRoom current) k taken in
+      let whole : take (k - 0) last ≡ take (frameRoom current) vs =
+      ap₂ take (let z : k - 0 ≡ k = omega arith in z) (ap (λ (y : Read). y .buffer) read) ∙ read-taken v vs buffer (frameRoom current) k x room taken in
+      ap (λ f. receiving b q f .board) whole ∙ ap (λ y. y .board) (overlong b q vs) ∙ ap (λ x. handIn q (decoded current x) b) (sym x)

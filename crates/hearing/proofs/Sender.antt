@@ -8,7 +8,7 @@ use Rattle.sets.specs.Sets.{member}
 use Rattle.sets.proofs.Tests.{cases}
 use Rattle.protocol.specs.Rounds.{Board}
 use Rattle.sheet.specs.Sheet.{Frame}
-use Rattle.codec.specs.Codec.{decode}
+use Rattle.codec.specs.Codec.{current, decode}
 use mathlib.Core.Option.{some}
 use Rattle.protocol.specs.Session.{handIn}
 use Rattle.sheet.specs.declared.head.Head.{Head}
@@ -21,7 +21,7 @@ module _ (h : Head) (fs : List Frame) (q : ℕ) where
   unfolding told
   told-faulty f b e = rw e refl
 
-  pub told-healthy : (f : List ℕ) (b : Board) → member q (h .faulty) ≡ false → told h fs q f b ≡ some (decode f)
+  pub told-healthy : (f : List ℕ) (b : Board) → member q (h .faulty) ≡ false → told h fs q f b ≡ some (decode current f)
   unfolding told
   told-healthy f b e = rw e refl
 

@@ -5,7 +5,7 @@ use mathlib.Core.Bool.{false, cond}
 use mathlib.Core.List.{List}
 use mathlib.Core.Option.{Option, some}
 use lib.ListN.{length, take}
-use Rattle.codec.specs.Codec.{decode}
+use Rattle.codec.specs.Codec.{current, decode}
 use Rattle.sets.specs.Sets.{member}
 use Rattle.sheet.specs.declared.head.Head.{Head}
 use Rattle.protocol.specs.declared.records.Record.{Record}
@@ -18,13 +18,13 @@ use Rattle.finding.specs.Frames.{Rising}
 
 -- The length of a frame, and the buffer that it stands in.
 pub record Framed (own : ℕ) (frame : List ℕ) : Type 0 where
-  pub fits : own ≤ frameRoom
-  pub whole : length frame ≡ frameRoom
+  pub fits : own ≤ frameRoom current
+  pub whole : length frame ≡ frameRoom current
 
 -- Frame lines that rise, and a buffer with room for every frame.
 pub record Readable (text : List ℕ) (from : ℕ) (frame : List ℕ) : Type 0 where
   pub rising : Rising text from
-  pub whole : length frame ≡ frameRoom
+  pub whole : length frame ≡ frameRoom current
 
 -- Frame lines that rise, and a frame in its buffer.
 pub record Hearable (text : List ℕ) (from own : ℕ) (frame : List ℕ) : Type 0 where
@@ -33,13 +33,13 @@ pub record Hearable (text : List ℕ) (from own : ℕ) (frame : List ℕ) : Type
 
 -- What the sheet's frames have from board q for the board with record r, at its run and round.
 abbrev pub inSheet : List Frame → ℕ → Record → Option (List ℕ)
-inSheet fs q r = decoded (findFrame (r .run) (r .round) q (r .board) fs)
+inSheet fs q r = decoded current (findFrame (r .run) (r .round) q (r .board) fs)
 
 -- What a board hears from board q: what the sheet's frames have for it if q is faulty, else the frame f.
 unfoldable pub told : Head → List Frame → ℕ → List ℕ → Board → Option (List ℕ)
 told h fs q f b =
     let found = inSheet fs q (b .rec) in
-    cond (member q (h .faulty)) found (some (decode f))
+    cond (member q (h .faulty)) found (some (decode current f))
 
 unfoldable pub hearFrom : Head → List Frame → ℕ → List ℕ → ℕ → Board → Board
 hearFrom h fs q f i b = handIn q (told h fs q f b) b

@@ -5,6 +5,7 @@ use mathlib.Core.Bool.{cond}
 use mathlib.Core.List.{List, []}
 use lib.Dec.{eqb}
 use lib.ListN.{getD, take, replicate}
+use Rattle.codec.specs.Codec.{current}
 use Rattle.sets.specs.Sets.{member}
 use Rattle.sheet.specs.declared.head.Head.{Head}
 use Rattle.protocol.specs.Limits.{frameRoom}
@@ -14,12 +15,12 @@ use Rattle.stage.specs.Stage.{Roomy}
 
 -- The dealer's frame; nothing if it is refused.
 unfoldable pub dealtFrame : Head → List ℕ
-dealtFrame h = let dealt = dealing (h .plan) (h .word) in cond (isTaken dealt) (dealt .values) []
+dealtFrame h = let dealt = dealing current (h .plan) (h .word) in cond (isTaken dealt) (dealt .values) []
 
 -- The frame of board q outside F: the dealer's, or what writing into a buffer with room for every frame gives; nothing if it is refused.
 unfoldable pub frameFrom : Head → ℕ → Board → List ℕ
 frameFrom h q b =
-    let wrote = sending b (replicate frameRoom 0) in
+    let wrote = sending b (replicate (frameRoom current) 0) in
     cond (eqb q (h .plan .dealer)) (dealtFrame h)
     (cond (isTaken (wrote .answer)) (take (getD (wrote .answer .values) 0 0) (wrote .out)) [])
 
@@ -36,4 +37,4 @@ pub record Written (k room : ℕ) (buffer frame : List ℕ) : Type 0 where
 pub record Sends (h : Head) (q : ℕ) (cells buffer : List ℕ) : Type 0 where
   pub roomy : Roomy h cells
   pub sender : q < h .plan .n
-  pub blank : buffer ≡ replicate frameRoom 0
+  pub blank : buffer ≡ replicate (frameRoom current) 0

@@ -11,6 +11,7 @@ use sheet::head::Head;
 ghost use mathlib.Core.Path.{_≡_};
 ghost use Prim.Native.Nat.{_≤_};
 ghost use lib.ListN.{length, replicate};
+ghost use Rattle.codec.specs.Codec.{current};
 ghost use Rattle.protocol.specs.Limits.{frameRoom};
 ghost use Rattle.protocol.specs.Rounds.{boardWith};
 ghost use Rattle.stage.specs.Stage.{boardOn};
@@ -33,8 +34,8 @@ fn dealer_frame(head: Head, frame: &mut [u8]) -> usize
 
 // The frame of board q, which is outside F; its length.
 fn frame_of(head: Head, q: u8, r: Record, cells: &[Value], frame: &mut [u8]) -> usize
-    requires { ⌜ now frame ≡ replicate frameRoom 0 ⌝ }
-    ensures { λ k. ⌜ Written k frameRoom (now (frame .exit)) (frameFrom head q (boardWith r (now (cells .entry)))) ⌝ }
+    requires { ⌜ now frame ≡ replicate (frameRoom current) 0 ⌝ }
+    ensures { λ k. ⌜ Written k (frameRoom current) (now (frame .exit)) (frameFrom head q (boardWith r (now (cells .entry)))) ⌝ }
 {
     let dealer = head.plan.dealer;
     if q == dealer {
@@ -55,7 +56,7 @@ pub fn sender_frame(
     frame: &mut [u8],
 ) -> usize
     requires { ⌜ Sends head q (now cells) (now frame) ⌝ }
-    ensures { λ k. ⌜ Written k frameRoom (now (frame .exit)) (healthyFrame head q (boardOn (head .plan .n) (record { recs = records; cells = now (cells .entry) }) q)) ⌝ }
+    ensures { λ k. ⌜ Written k (frameRoom current) (now (frame .exit)) (healthyFrame head q (boardOn (head .plan .n) (record { recs = records; cells = now (cells .entry) }) q)) ⌝ }
 {
     if member(head.faulty, q) {
         return 0;

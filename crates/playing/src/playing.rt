@@ -12,6 +12,7 @@ use session::rounds::play_rounds;
 use sheet::head::Head;
 ghost use mathlib.Core.Path.{_≡_};
 ghost use mathlib.Core.List.{[], _∷_};
+ghost use Rattle.codec.specs.Codec.{current};
 ghost use Rattle.refusals.specs.Outcome.{taken};
 ghost use Rattle.protocol.specs.Answers.{playedSays};
 ghost use Rattle.sheet.specs.Sheet.{reading};
@@ -21,7 +22,7 @@ ghost use Rattle.playing.specs.Playable.{Playable};
 // A sheet that is accepted, by its head and where its frame lines begin; the bytes written.
 fn play_sheet(head: Head, text: &[u8], from: usize, cells: &mut [Value], out: &mut [u8]) -> usize
     requires { ⌜ Playable (now text) (now cells) (now out) head from ⌝ }
-    ensures { λ r. ⌜ record { answer = taken (r ∷ []); cells = now (cells .exit); out = now (out .exit) } ≡ playHead (reading (now (text .entry)) .head) (reading (now (text .entry)) .frames) (now (cells .entry)) (now (out .entry)) ⌝ }
+    ensures { λ r. ⌜ record { answer = taken (r ∷ []); cells = now (cells .exit); out = now (out .exit) } ≡ playHead current (reading current (now (text .entry)) .head) (reading current (now (text .entry)) .frames) (now (cells .entry)) (now (out .entry)) ⌝ }
 {
     let records = play_rounds(head, text, from, cells);
     print_boards(head, records, out)
@@ -29,7 +30,7 @@ fn play_sheet(head: Head, text: &[u8], from: usize, cells: &mut [Value], out: &m
 
 // Playing a sheet: 20, 17, 11, then line by line.
 pub fn play(text: &[u8], cells: &mut [Value], out: &mut [u8]) -> Played
-    ensures { λ r. ⌜ record { answer = playedSays r; cells = now (cells .exit); out = now (out .exit) } ≡ playing (now (text .entry)) (now (cells .entry)) (now (out .entry)) ⌝ }
+    ensures { λ r. ⌜ record { answer = playedSays r; cells = now (cells .exit); out = now (out .exit) } ≡ playing current (now (text .entry)) (now (cells .entry)) (now (out .entry)) ⌝ }
 {
     if SHEET < text.len() {
         return Played::Refused(Refusal::LongSheet, 0);

@@ -7,7 +7,7 @@ use native.Mathlib.Numerals.{add-two, add-four, add-six, add-eight}
 use native.Mathlib.Omega.{arith}
 use lib.ListN.{length, drop, set}
 use lib.Seq.{sets, sets-eq}
-use Rattle.codec.specs.Codec.{encode}
+use Rattle.codec.specs.Codec.{current, encode}
 use Rattle.hex.specs.Hex.{hexByte, hexBytes}
 use Rattle.sheet.specs.Playing.{hexValue, printed}
 
@@ -23,7 +23,7 @@ stores-first l a h =
     sets-eq a l 0 (omega arith) ∙ ap (λ k. a ++ drop k l) z
 
 pub line-stores : (o : List ℕ) (at board decision list place : ℕ)
-    → set (sets (sets (sets (sets o at (hexByte board [])) (at + 2) (hexValue decision [])) (at + 4) (hexByte list [])) (at + 6) (hexByte place [])) (at + 8) 10
-    ≡ sets o at (printed board decision list place [])
+    → set (sets (sets (sets (sets o at (hexByte board [])) (at + 2) (hexValue current decision [])) (at + 4) (hexByte list [])) (at + 6) (hexByte place [])) (at + 8) 10
+    ≡ sets o at (printed current board decision list place [])
 unfolding encode hexByte hexBytes hexValue printed
 line-stores o at board decision list place = rw (add-two at, add-four at, add-six at, add-eight at) refl

@@ -4,6 +4,7 @@ use mathlib.Core.Bool.{_&&_, cond}
 use mathlib.Core.List.{List, [], map, _++_}
 use lib.Dec.{eqb, leb}
 use lib.ListN.{length, drop}
+use Rattle.codec.specs.Codec.{current}
 use Rattle.sets.specs.Structure.{heldAt}
 use Rattle.plan.specs.Listed.{listed}
 use Rattle.protocol.specs.Limits.{outputNeeded}
@@ -22,14 +23,14 @@ boardsOf records = map (λ r. boardWith r ([])) records
 unfoldable pub healthyLine : Head → ℕ → Record → List ℕ → List ℕ
 healthyLine h i r rest =
     let list = asSet (r .list) in
-    let keepers = printed i (r .decision) list (heldAt (listed (h .plan)) list) rest in
-    cond (eqb i (h .plan .dealer)) (printed i (h .word) 0 0 rest) keepers
+    let keepers = printed current i (r .decision) list (heldAt (listed (h .plan)) list) rest in
+    cond (eqb i (h .plan .dealer)) (printed current i (h .word) 0 0 rest) keepers
 
 -- The lines of all boards outside F; nothing for more than seven boards, or if the output is too short.
 unfoldable pub boardLines : Head → List Record → List ℕ → List ℕ
 boardLines h records out =
-    let text = printBoards h (boardsOf records) 0 (h .plan .n) in
-    cond (leb (h .plan .n) 7 && leb outputNeeded (length out)) text []
+    let text = printBoards current h (boardsOf records) 0 (h .plan .n) in
+    cond (leb (h .plan .n) 7 && leb (outputNeeded current) (length out)) text []
 
 -- How many bytes of the output are to be printed, and the output.
 pub record Output : Type 0 where

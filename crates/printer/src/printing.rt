@@ -14,15 +14,15 @@ ghost use mathlib.Core.List.{[]};
 ghost use Prim.Native.Nat.{_+_, _*_, _≤_};
 ghost use lib.ListN.{length};
 ghost use lib.Seq.{sets};
-ghost use Rattle.codec.specs.Codec.{width};
+ghost use Rattle.codec.specs.Codec.{current, valueSize};
 ghost use Rattle.protocol.specs.Limits.{lineLength};
 ghost use Rattle.sheet.specs.Playing.{hexValue, printed};
 ghost use Rattle.printer.specs.Printed.{healthyLine, boardLines, atFront};
 
 // A value as the digits of its bytes.
 fn print_value(out: &mut [u8], at: usize, v: Value)
-    requires { ⌜ at + 2 * width ≤ length (now out) ⌝ }
-    ensures { λ _. ⌜ now (out .exit) ≡ sets (now (out .entry)) at (hexValue v []) ⌝ }
+    requires { ⌜ at + 2 * valueSize current ≤ length (now out) ⌝ }
+    ensures { λ _. ⌜ now (out .exit) ≡ sets (now (out .entry)) at (hexValue current v []) ⌝ }
 {
     print_byte(out, at, v);
 }
@@ -38,8 +38,8 @@ const NEWLINE: usize = LINE - 1;
 
 // A board's line: board, decision, list as a set, the list's place.
 fn print_line(out: &mut [u8], at: usize, board: u8, decision: Value, list: u8, place: u8)
-    requires { ⌜ at + lineLength ≤ length (now out) ⌝ }
-    ensures { λ _. ⌜ now (out .exit) ≡ sets (now (out .entry)) at (printed board decision list place []) ⌝ }
+    requires { ⌜ at + lineLength current ≤ length (now out) ⌝ }
+    ensures { λ _. ⌜ now (out .exit) ≡ sets (now (out .entry)) at (printed current board decision list place []) ⌝ }
 {
     print_byte(out, at, board);
     print_value(out, at + DECISION, decision);
@@ -50,7 +50,7 @@ fn print_line(out: &mut [u8], at: usize, board: u8, decision: Value, list: u8, p
 
 // The line of board i, which is outside F: the dealer has its own value, an empty list and place 0.
 fn print_board(head: Head, i: u8, r: Record, out: &mut [u8], at: usize)
-    requires { ⌜ at + lineLength ≤ length (now out) ⌝ }
+    requires { ⌜ at + lineLength current ≤ length (now out) ⌝ }
     ensures { λ _. ⌜ now (out .exit) ≡ sets (now (out .entry)) at (healthyLine head i r []) ⌝ }
 {
     let dealer = head.plan.dealer;

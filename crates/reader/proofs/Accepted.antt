@@ -9,6 +9,7 @@ use native.Mathlib.Omega.{arith}
 use lib.Dec.{eqb, leb}
 use lib.ListN.{length, take, drop}
 use borrow.Author.Tests.{eqb-true, eqb-false}
+use Rattle.codec.specs.Codec.{current}
 use Rattle.sets.specs.Sets.{member}
 use Rattle.sets.proofs.Tests.{cases, and-l, and-r}
 use Rattle.plan.specs.declared.plan.Plan.{Plan}
@@ -50,7 +51,7 @@ lines-rising p faulty (l ∷ ls) least number ok =
     (λ y. absurd (let z : 24 ≡ 0 = rw (x, y) at ok in omega arith)))
     (λ x. absurd (let z : 21 ≡ 0 = rw x at ok in omega arith))
 
-module _ (text : List ℕ) (ok : reading text .answer .number ≡ 0) where
+module _ (text : List ℕ) (ok : reading current text .answer .number ≡ 0) where
   begun : Begun text (stop text 0) refl
   unfolding wrongAt
   begun =
@@ -63,25 +64,25 @@ module _ (text : List ℕ) (ok : reading text .answer .number ≡ 0) where
   sheet-ended = begun .ended
 
   -- Its head is that of its first line's bytes.
-  pub sheet-head : reading text .head ≡ headOf (all (take (stop text 0 - 0) text))
+  pub sheet-head : reading current text .head ≡ headOf current (all (take (stop text 0 - 0) text))
   sheet-head =
-      let h = headOf (all (take (stop text 0 - 0) text)) in ap (λ r. r .head) (begun .reads) ∙ frames-head h none 2 (lines (drop (stop text 0 + 1) text))
+      let h = headOf current (all (take (stop text 0 - 0) text)) in ap (λ r. r .head) (begun .reads) ∙ frames-head h none 2 (lines (drop (stop text 0 + 1) text))
 
   -- So it is the head that its first line's reading gives.
   pub sheet-given : (e : ℕ) (h : Head) → e ≡ stop text 0
-      → (judgeHead (all (take (e - 0) text)) .number ≡ 0 → h ≡ headOf (all (take (e - 0) text))) → h ≡ reading text .head
+      → (judgeHead current (all (take (e - 0) text)) .number ≡ 0 → h ≡ headOf current (all (take (e - 0) text))) → h ≡ reading current text .head
   sheet-given e h ends gives =
-      subst (λ k. judgeHead (all (take (k - 0) text)) .number ≡ 0 → h ≡ headOf (all (take (k - 0) text))) ends gives (begun .accepted) ∙ sym sheet-head
+      subst (λ k. judgeHead current (all (take (k - 0) text)) .number ≡ 0 → h ≡ headOf current (all (take (k - 0) text))) ends gives (begun .accepted) ∙ sym sheet-head
 
-  pub sheet-frames : reading text .frames ≡ framesFrom text (stop text 0 + 1)
+  pub sheet-frames : reading current text .frames ≡ framesFrom text (stop text 0 + 1)
   unfolding framesFrom
   sheet-frames =
-      let h = headOf (all (take (stop text 0 - 0) text)) in
+      let h = headOf current (all (take (stop text 0 - 0) text)) in
       ap (λ r. r .frames) (begun .reads) ∙ read-frames h (lines (drop (stop text 0 + 1) text)) none 2 (ap (λ r. r .answer .number) (sym (begun .reads)) ∙ ok)
 
   pub sheet-rising : Rising text (stop text 0 + 1)
   unfolding framesFrom
   sheet-rising =
-      let h = headOf (all (take (stop text 0 - 0) text)) in
+      let h = headOf current (all (take (stop text 0 - 0) text)) in
       lines-rising (h .plan) (h .faulty) (lines (drop (stop text 0 + 1) text)) 0 2
       (ap (λ (o : Outcome). o .number) (sym (sheet-answer text (stop text 0) refl begun)) ∙ ok)

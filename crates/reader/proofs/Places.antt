@@ -9,6 +9,7 @@ use native.Mathlib.Omega.{arith}
 use lib.Dec.{ltb}
 use lib.ListN.{length, take}
 use borrow.Author.Tests.{lt-ltb, le-ltb}
+use Rattle.codec.specs.Codec.{current}
 use Rattle.refusals.specs.Outcome.{refused}
 use Rattle.sheet.specs.Sheet.{lines, judgeHead}
 use Rattle.hex.specs.Bytes.{isText, bytesFrom}
@@ -25,7 +26,7 @@ module _ (text : List ℕ) (e : ℕ) where
   top-none l = ap judgeTop (lines-none text 0 (omega arith))
 
   module _ (l : length text ≢ 0) (ends : e ≡ stop text 0) where
-    top-opened : judgeTop (lines text) ≡ cond (ltb e (length text) && isText top) (judgeHead (bytesFrom top 0 (length top / 2))) (refused 21)
+    top-opened : judgeTop (lines text) ≡ cond (ltb e (length text) && isText top) (judgeHead current (bytesFrom top 0 (length top / 2))) (refused 21)
     unfolding judgeTop
     top-opened = ap judgeTop (lines-at text 0 (omega arith)) ∙ rw (← ends) refl
 
@@ -35,5 +36,5 @@ module _ (text : List ℕ) (e : ℕ) where
     pub top-other : e < length text → isText top ≡ false → judgeTop (lines text) ≡ refused 21
     top-other h t = top-opened ∙ rw (lt-ltb e (length text) h, t) refl
 
-    pub top-good : e < length text → isText top ≡ true → judgeTop (lines text) ≡ judgeHead (bytesFrom top 0 (length top / 2))
+    pub top-good : e < length text → isText top ≡ true → judgeTop (lines text) ≡ judgeHead current (bytesFrom top 0 (length top / 2))
     top-good h t = top-opened ∙ rw (lt-ltb e (length text) h, t) refl

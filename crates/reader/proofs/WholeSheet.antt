@@ -13,6 +13,7 @@ use lib.Dec.{eqb, leb, ltb}
 use lib.ListN.{length, getD, take, drop, drop-of-length-le}
 use lib.Seq.{length-take-le}
 use borrow.Author.Tests.{eq-eqb, ne-eqb, eqb-true, eqb-false, lt-ltb, le-ltb, ltb-true, ltb-false, le-leb, leb-true, leb-false}
+use Rattle.codec.specs.Codec.{current}
 use Rattle.sets.specs.Sets.{member}
 use Rattle.sets.proofs.Tests.{cases, same-test, and-l, and-r}
 use Rattle.schedule.specs.Schedule.{hasRound}
@@ -159,23 +160,23 @@ module _ (h : Head) where
   read-frames (l ∷ ls) before number ok = frames-step before number l ls (λ g. read-frames ls g (suc number)) ok
 
 -- The head's line, and the lines after it.
-top-refused : (ls : List Line) → judgeTop ls .number ≢ 0 → readLines ls .answer ≡ wrongAt 1 (judgeTop ls)
+top-refused : (ls : List Line) → judgeTop ls .number ≢ 0 → readLines current ls .answer ≡ wrongAt 1 (judgeTop ls)
 unfolding readLines judgeTop readHead refusedReading
 top-refused [] bad = refl
 top-refused (l ∷ ls) bad =
     let d = l .text in
     cases (l .ended && isText d)
     (λ x. let bytes = bytes-some l (and-l (l .ended) (isText d) x) (and-r (l .ended) (isText d) x) in
-    let same : judgeTop (l ∷ ls) ≡ judgeHead (all d) = rw x refl in
-    let wrong : eqb (judgeHead (all d) .number) 0 ≡ false = ne-eqb (judgeHead (all d) .number) 0 (λ z. bad (ap (λ o. o .number) same ∙ z)) in
+    let same : judgeTop (l ∷ ls) ≡ judgeHead current (all d) = rw x refl in
+    let wrong : eqb (judgeHead current (all d) .number) 0 ≡ false = ne-eqb (judgeHead current (all d) .number) 0 (λ z. bad (ap (λ o. o .number) same ∙ z)) in
     rw (bytes, readLines) (rw (wrong, readHead) (rw x refl)))
     (λ x. rw (bytes-none l x, readLines) (rw x refl))
 
 -- What an accepted head gives.
 record Topped (l : Line) (ls : List Line) : Type 0 where
   ends : l .ended ≡ true
-  accepted : judgeHead (all (l .text)) .number ≡ 0
-  reads : readLines (l ∷ ls) ≡ readFrames (headOf (all (l .text))) none 2 ls
+  accepted : judgeHead current (all (l .text)) .number ≡ 0
+  reads : readLines current (l ∷ ls) ≡ readFrames (headOf current (all (l .text))) none 2 ls
 
 top-taken : (l : Line) (ls : List Line) → judgeTop (l ∷ ls) .number ≡ 0 → Topped l ls
 unfolding readLines judgeTop readHead
@@ -183,11 +184,11 @@ top-taken l ls ok =
     let d = l .text in
     cases (l .ended && isText d)
     (λ x. let bytes = bytes-some l (and-l (l .ended) (isText d) x) (and-r (l .ended) (isText d) x) in
-    let good : judgeHead (all d) .number ≡ 0 = rw x at ok in
+    let good : judgeHead current (all d) .number ≡ 0 = rw x at ok in
     record {
       ends = and-l (l .ended) (isText d) x;
       accepted = good;
-      reads = rw (bytes, readLines) (rw (eq-eqb (judgeHead (all d) .number) 0 good, readHead));
+      reads = rw (bytes, readLines) (rw (eq-eqb (judgeHead current (all d) .number) 0 good, readHead));
     })
     (λ x. absurd (let z : 21 ≡ 0 = rw x at ok in omega arith))
 
@@ -199,8 +200,8 @@ module _ (text : List ℕ) (e : ℕ) (ends : e ≡ stop text 0) where
 
   pub record Begun : Type 0 where
     pub ended : e < length text
-    pub accepted : judgeHead (all top) .number ≡ 0
-    pub reads : reading text ≡ readFrames (headOf (all top)) none 2 (lines (drop (e + 1) text))
+    pub accepted : judgeHead current (all top) .number ≡ 0
+    pub reads : reading current text ≡ readFrames (headOf current (all top)) none 2 (lines (drop (e + 1) text))
 
   pub sheet-begun : judgeTop (lines text) .number ≡ 0 → Begun
   unfolding reading
@@ -210,15 +211,15 @@ module _ (text : List ℕ) (e : ℕ) (ends : e ≡ stop text 0) where
       let rest = lines (drop (e + 1) text) in
       let at : lines text ≡ l ∷ rest = rw (sym ends) at (lines-at text 0 (ltb-true 0 (length text) x)) in
       let t = top-taken l rest (ap (λ ls. judgeTop ls .number) (sym at) ∙ ok) in
-      record { ended = ltb-true e (length text) (t .ends); accepted = t .accepted; reads = ap readLines at ∙ t .reads })
+      record { ended = ltb-true e (length text) (t .ends); accepted = t .accepted; reads = ap (readLines current) at ∙ t .reads })
       (λ x. absurd (let z : 22 ≡ 0 = ap (λ o. o .number) (sym (top-none text e (let y : length text ≡ 0 = omega (arith, ltb-false 0 (length text) x) in y))) ∙ ok in omega arith))
 
-  pub sheet-refused : judgeTop (lines text) .number ≢ 0 → reading text .answer ≡ wrongAt 1 (judgeTop (lines text))
+  pub sheet-refused : judgeTop (lines text) .number ≢ 0 → reading current text .answer ≡ wrongAt 1 (judgeTop (lines text))
   unfolding reading
   sheet-refused bad = top-refused (lines text) bad
 
   -- What is said of a head that is refused.
-  pub sheet-said : (why : Refusal) → refusal why ≡ judgeTop (lines text) → JudgedAs (reading text .answer) (length text) (record { verdict = Refused why; line = 1 })
+  pub sheet-said : (why : Refusal) → refusal why ≡ judgeTop (lines text) → JudgedAs (reading current text .answer) (length text) (record { verdict = Refused why; line = 1 })
   unfolding judgedSays verdict wrongAt
   sheet-said why same =
       let bad = refusal-number why in
@@ -230,5 +231,5 @@ module _ (text : List ℕ) (e : ℕ) (ends : e ≡ stop text 0) where
     pub sheet-far : 14 ≤ e
     sheet-far = omega (arith, head-sized top (b .accepted), length-take-le (e - 0) text (let z : e - 0 ≤ length text = omega (arith, b .ended) in z))
 
-    pub sheet-answer : reading text .answer ≡ judgeLines (headOf (all top) .plan) (headOf (all top) .faulty) 0 2 (lines (drop (e + 1) text))
-    sheet-answer = ap (λ r. r .answer) (b .reads) ∙ read-judged (headOf (all top)) (lines (drop (e + 1) text)) none 0 2 follows-none
+    pub sheet-answer : reading current text .answer ≡ judgeLines (headOf current (all top) .plan) (headOf current (all top) .faulty) 0 2 (lines (drop (e + 1) text))
+    sheet-answer = ap (λ r. r .answer) (b .reads) ∙ read-judged (headOf current (all top)) (lines (drop (e + 1) text)) none 0 2 follows-none

@@ -4,6 +4,7 @@ use mathlib.Core.Path.{_≡_}
 use mathlib.Core.Bool.{_&&_, cond}
 use mathlib.Core.List.{List, [], _∷_}
 use lib.ListN.{length, take}
+use Rattle.codec.specs.Codec.{current}
 use Rattle.refusals.specs.declared.refusal.Verdict.{Verdict}
 use Rattle.refusals.specs.Outcome.{Outcome, refused, verdict}
 use Rattle.sheet.specs.Sheet.{Line, judgeHead, reading}
@@ -17,7 +18,7 @@ use Rattle.reader.specs.declared.reading.ReadSheet.{ReadSheet}
 -- Where the first line ends, and what is judged of its head.
 pub record FirstJudged (text : List ℕ) (end : ℕ) (head : Verdict) : Type 0 where
   pub ends : end ≡ lineStop text 0
-  pub judges : verdict head ≡ judgeHead (bytesFrom (take (end - 0) text) 0 (length (take (end - 0) text) / 2))
+  pub judges : verdict head ≡ judgeHead current (bytesFrom (take (end - 0) text) 0 (length (take (end - 0) text) / 2))
 
 -- Where the first line ends, and the head that it gives.
 pub record FirstRead (text : List ℕ) (end : ℕ) (r : ReadHead) : Type 0 where
@@ -28,10 +29,10 @@ pub record FirstRead (text : List ℕ) (end : ℕ) (r : ReadHead) : Type 0 where
 unfoldable pub judgeTop : List Line → Outcome
 judgeTop [] = refused 22
 judgeTop (l ∷ ls) =
-    let head = judgeHead (bytesFrom (l .text) 0 (length (l .text) / 2)) in cond (l .ended && isText (l .text)) head (refused 21)
+    let head = judgeHead current (bytesFrom (l .text) 0 (length (l .text) / 2)) in cond (l .ended && isText (l .text)) head (refused 21)
 
 -- A sheet that was read: what is judged of it; if it is accepted its head; and where its frame lines begin.
 pub record SheetRead (text : List ℕ) (r : ReadSheet) : Type 0 where
-  pub judges : JudgedAs (reading text .answer) (length text) (r .judged)
-  pub gives : reading text .answer .number ≡ 0 → r .head ≡ reading text .head
+  pub judges : JudgedAs (reading current text .answer) (length text) (r .judged)
+  pub gives : reading current text .answer .number ≡ 0 → r .head ≡ reading current text .head
   pub begins : r .frames ≡ lineStop text 0 + 1

@@ -10,6 +10,7 @@ use sheet::head::Head;
 use text::lines::line_end;
 ghost use mathlib.Core.Path.{_≡_};
 ghost use lib.ListN.{length};
+ghost use Rattle.codec.specs.Codec.{current};
 ghost use Rattle.refusals.specs.Outcome.{verdict};
 ghost use Rattle.sheet.specs.Sheet.{lines, reading};
 ghost use Rattle.judging_frames.specs.Lines.{JudgedAs};
@@ -42,7 +43,7 @@ fn judge_first(text: &[u8], end: usize, head: Verdict) -> Verdict
 // All lines, by where the first one ends and the head that it gives.
 fn judge_sheet(text: &[u8], end: usize, read: ReadHead) -> Judged
     requires { ⌜ FirstRead (now text) end read ⌝ }
-    ensures { λ r. ⌜ JudgedAs (reading (now (text .entry)) .answer) (length (now (text .entry))) r ⌝ }
+    ensures { λ r. ⌜ JudgedAs (reading current (now (text .entry)) .answer) (length (now (text .entry))) r ⌝ }
 {
     let head = read.verdict;
     match judge_first(text, end, head) {

@@ -8,7 +8,7 @@ use mathlib.Core.List.{List, []}
 use native.Mathlib.Omega.{arith}
 use lib.Dec.{ltb}
 use borrow.Author.Tests.{ne-eqb, ltb-true}
-use Rattle.codec.specs.Codec.{decode}
+use Rattle.codec.specs.Codec.{current, decode}
 use Rattle.sets.proofs.Tests.{cases, and-l}
 use Rattle.plan.specs.declared.plan.Plan.{Plan}
 use Rattle.schedule.specs.declared.rounds.Round.{Round}
@@ -39,7 +39,7 @@ module _ (b : Board) (q : ℕ) (f : List ℕ) where
   abbrev Taken : Outcome → List ℕ → Type 0
   Taken o after =
       let r = b .rec in
-      Takes (r .plan) q (r .list) (r .marks) (due (r .plan) q (r .board) (r .round)) (sent (r .plan) q (r .board) (r .round)) (decode f) (b .cells) o after
+      Takes (r .plan) q (r .list) (r .marks) (due (r .plan) q (r .board) (r .round)) (sent (r .plan) q (r .board) (r .round)) (decode current f) (b .cells) o after
 
   judged-so : judgeOpen b .number ≡ 0 → (o : Outcome) (after : List ℕ) → Taken o after → judgeReceiving b q ≡ o
   unfolding judgeReceiving
@@ -53,7 +53,7 @@ module _ (b : Board) (q : ℕ) (f : List ℕ) where
         let no = ne-eqb (o .number) 0 ne in
         ap (λ cells. record { answer = o; board = boardWith (b .rec) cells }) (rw no at (y .cells)) ∙ rw (judged-so e o after y, no) refl
 
-    pub receive-taken : x ≡ taken [] → (r : Record) → r ≡ receive q (decode f) b .rec → record { answer = taken []; board = boardWith r after } ≡ receiving b q f
+    pub receive-taken : x ≡ taken [] → (r : Record) → r ≡ receive q (decode current f) b .rec → record { answer = taken []; board = boardWith r after } ≡ receiving b q f
     unfolding receiving taking receive isTaken
     receive-taken z r m =
         let y = subst (λ v. Taken v after) z t in

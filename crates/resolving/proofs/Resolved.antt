@@ -8,12 +8,12 @@ use mathlib.Core.List.{List, [], _∷_}
 use mathlib.Core.Option.{Option, some, none, Option·getD}
 use native.Mathlib.Omega.{arith}
 use lib.ListN.{getD}
+use Rattle.codec.specs.Codec.{blank}
 use Rattle.sets.specs.Sets.{member}
 use Rattle.plan.specs.declared.plan.Plan.{Plan}
 use Rattle.plan.specs.Values.{default}
 use Rattle.schedule.specs.Schedule.{rounds}
 use Rattle.tree.specs.Labels.{Label, occurs, mask}
-use Rattle.tree.specs.Cells.{blank}
 use Rattle.tree.proofs.Masks.{mask-member}
 use Rattle.protocol.specs.Nodes.{read, internal}
 use Rattle.sets.specs.Tabulate.{tabulate}

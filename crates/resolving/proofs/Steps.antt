@@ -1,6 +1,6 @@
 -- Resolving a node, as the code goes: from child to child.
 -- Assumes nothing.
-use Prim.Native.Nat.{ℕ, zero, suc, _+_, _-_, _*_, _%_, _^_, _≤_, _<_}
+use Prim.Native.Nat.{ℕ, suc, _+_, _-_, _*_, _%_, _^_, _≤_, _<_}
 use mathlib.Core.Path.{_≡_, refl, sym, ap, ap₂, _∙_, subst}
 use mathlib.Core.Logic.{_≢_}
 use mathlib.Core.Bool.{true, false, _&&_, and-true, and-false}
@@ -23,7 +23,7 @@ use Rattle.plan.specs.Values.{default, value}
 use Rattle.schedule.specs.Schedule.{rounds}
 use Rattle.tree.specs.Labels.{Label, occurs, mask, labels}
 use Rattle.tree.specs.Places.{levelSize, levelStart, cellCount, place, childIndex, sizeWithin}
-use Rattle.tree.specs.Cells.{blank, cellAt, store}
+use Rattle.tree.specs.Cells.{cellAt, store}
 use Rattle.tree.proofs.Boards.{outside-zero, outside-le, outside-more, outside-skip}
 use Rattle.tree.proofs.Descent.{insert-byte, root-at, root-byte}
 use Rattle.tree.proofs.Labels.{label-length, label-below}
@@ -69,12 +69,6 @@ same-room k e = record {
 
 pub tabled : {p : Plan} {holders : List ℕ} {i : ℕ} {cells : List ℕ} → Convertible p holders i cells → Tabled p holders
 tabled k = record { most-boards = k .most-boards; few-sets = k .few-sets; table = k .table }
-
--- Reading a cell that is there needs no default.
-pub getD-any : (l : List ℕ) (i a b : ℕ) → i < length l → getD l i a ≡ getD l i b
-getD-any [] i a b h = absurd (omega arith)
-getD-any (x ∷ l) zero a b h = refl
-getD-any (x ∷ l) (suc i) a b h = getD-any l i a b (omega arith)
 
 -- The children by boards below c are resolved: what they are worth, the cells, and the number of the next child.
 pub record Filling (p : Plan) (i level index s left c child : ℕ) (values before cells : List ℕ) : Type 0 where
@@ -160,7 +154,7 @@ module _ {p : Plan} {holders : List ℕ} {i : ℕ} {before : List ℕ} (k : Conv
   -- A leaf.
   leaf-value : value p (getD before (start + index) 0) ≡ read p before (node p level index)
   unfolding read cellAt
-  leaf-value = ap (value p) (getD-any before (start + index) 0 blank place-there ∙ ap (λ j. getD before j blank) place-is)
+  leaf-value = ap (λ j. value p (getD before j 0)) place-is
 
   pub leaf-settles : {v : ℕ} {after : List ℕ} → internal p i (node p level index) ≡ false → Leaves p (start + index) v before after
       → Settles p i left (node p level index) v before after

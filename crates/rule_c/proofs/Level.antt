@@ -19,7 +19,7 @@ use Rattle.schedule.specs.declared.rounds.Round.{Round}
 use Rattle.schedule.specs.Schedule.{rounds}
 use Rattle.tree.specs.Labels.{Label, mask, last, labels}
 use Rattle.tree.specs.Places.{levelStart, rank, place, childIndex, outsideBelow, startWithin}
-use Rattle.tree.specs.Cells.{blank, cellAt}
+use Rattle.tree.specs.Cells.{cellAt}
 use Rattle.tree.proofs.ChildIndex.{child-index}
 use Rattle.tree.proofs.Entries.{getD-mem}
 use Rattle.tree.proofs.Labels.{label-length}
@@ -47,7 +47,6 @@ use Rattle.children.specs.Standing.{Beside}
 use Rattle.rule_c.specs.Contracts.{Listed}
 use Rattle.rule_c.specs.Reading.{standing, passesBy, detectBy, levelsBy}
 use Rattle.children.specs.Standing.{standingFrom, passesAt}
-use Rattle.resolving.proofs.Steps.{getD-any}
 
 -- Node number j of a level.
 module _ {p : Plan} {holders : List ℕ} {i : ℕ} {cells : List ℕ} (k : Convertible p holders i cells)
@@ -133,7 +132,7 @@ module _ {p : Plan} {holders : List ℕ} {i : ℕ} {cells : List ℕ} (k : Conve
           sym (r
           ∙ ap₂ (λ q t. member q (asSet grown) || explainedBy p (x % 128) t (asSet grown)) (visited .end)
           (table-same (standingFrom cells from (x % 128)) (standing (p .n) cells α) (x % 128) (p .n)
-          (λ c l o. ap some (getD-any cells (from + outsideBelow (x % 128) c) 0 blank (child-there c l o) ∙ ap (λ y. getD cells y blank) (child-place c))))
+          (λ c l o. ap (λ y. some (getD cells y 0)) (child-place c)))
           ∙ ap (λ s. member (last α) (asSet grown) || explainedBy p s (childTable (standing (p .n) cells α) s (p .n)) (asSet grown)) (visited .boards))
 
     -- One node of the level.

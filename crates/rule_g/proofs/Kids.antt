@@ -62,7 +62,7 @@ module _ {p : Plan} {holders : List ℕ} {level node start : ℕ} {cells : List 
 
     kid-read : kid p (node % 128) from cells c ≡ byCell p cells α c
     unfolding kid byCell
-    kid-read = ap some (read-place p cells (c ∷ α) (from + outsideBelow (node % 128) c) kid-place kid-there)
+    kid-read = ap some (read-place p cells (c ∷ α) (from + outsideBelow (node % 128) c) kid-place)
 
   pub kids-there : Kids p (node % 128) from cells
   kids-there = record { most-boards = v .tabled .most-boards; there = kid-there }

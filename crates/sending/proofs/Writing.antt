@@ -9,7 +9,7 @@ use native.Mathlib.Omega.{arith}
 use lib.Dec.{eqb, ltb}
 use lib.ListN.{length, length-map, drop}
 use borrow.Author.Tests.{eq-eqb, ne-eqb, eqb-true, eqb-false, lt-ltb, le-ltb, ltb-true, ltb-false}
-use Rattle.codec.specs.Codec.{width, encode}
+use Rattle.codec.specs.Codec.{current, valueSize, encode}
 use Rattle.codec.proofs.Codec.{length-encode}
 use Rattle.sets.specs.Search.{any}
 use Rattle.sets.proofs.Tests.{cases, is-false, and-l, and-r, not-t, or-true, or-l, or-r}
@@ -88,9 +88,9 @@ module _ {p : Plan} {holders : List ℕ} {i : ℕ} {k : Round} (s : Standing p h
     abbrev idle : Bool
     idle = eqb (length (sent p i i k)) 0 || ltb (p .n) 3
 
-    wire-length : length (wire p i k cells) ≡ width * length (sent p i i k)
+    wire-length : length (wire p i k cells) ≡ valueSize current * length (sent p i i k)
     unfolding frame
-    wire-length = let z = length-map (sent p i i k) (read p cells) in length-encode (frame p i i k cells) ∙ ap (λ x. width * x) z
+    wire-length = let z = length-map (sent p i i k) (read p cells) in length-encode current (frame p i i k cells) ∙ ap (λ x. valueSize current * x) z
 
     some-due : idle ≡ false → any (λ j. due p i j k) (p .n) ≡ true
     some-due e =
@@ -103,19 +103,19 @@ module _ {p : Plan} {holders : List ℕ} {i : ℕ} {k : Round} (s : Standing p h
       out = refl;
     }
 
-    pub writes-short : idle ≡ false → length out < width * length (sent p i i k) → Writes p i k cells out (refused 17) out
+    pub writes-short : idle ≡ false → length out < valueSize current * length (sent p i i k) → Writes p i k cells out (refused 17) out
     unfolding isTaken
     writes-short e h = record {
       answer = rw (some-due e, lt-ltb (length out) (length (wire p i k cells)) (omega (arith, wire-length))) refl;
       out = refl;
     }
 
-    pub writes-all : idle ≡ false → width * length (sent p i i k) ≤ length out
-        → Writes p i k cells out (taken (width * length (sent p i i k) ∷ [])) (encode (map (read p cells) (sent p i i k)) ++ drop (width * length (sent p i i k)) out)
+    pub writes-all : idle ≡ false → valueSize current * length (sent p i i k) ≤ length out
+        → Writes p i k cells out (taken (valueSize current * length (sent p i i k) ∷ [])) (encode current (map (read p cells) (sent p i i k)) ++ drop (valueSize current * length (sent p i i k)) out)
     unfolding isTaken frame
     writes-all e h = record {
       answer = rw (some-due e, le-ltb (length out) (length (wire p i k cells)) (omega (arith, wire-length))) (ap (λ x. taken (x ∷ [])) (sym wire-length));
-      out = ap (λ x. encode (map (read p cells) (sent p i i k)) ++ drop x out) (sym wire-length);
+      out = ap (λ x. encode current (map (read p cells) (sent p i i k)) ++ drop x out) (sym wire-length);
     }
 
   -- In round 1 the board sends nothing.
@@ -135,19 +135,19 @@ module _ {p : Plan} {holders : List ℕ} {i : ℕ} {k : Round} (s : Standing p h
   pub later-none : (eqb count 0 || ltb (p .n) 3) ≡ true → Writes p i k cells out (refused 16) out
   later-none t = writes-none s cells out (idle-sent ∙ t)
 
-  pub later-short : (eqb count 0 || ltb (p .n) 3) ≡ false → length out < width * count → Writes p i k cells out (refused 17) out
+  pub later-short : (eqb count 0 || ltb (p .n) 3) ≡ false → length out < valueSize current * count → Writes p i k cells out (refused 17) out
   later-short t h = writes-short s cells out (idle-sent ∙ t) (omega (arith, count-sent))
 
-  pub later-all : (eqb count 0 || ltb (p .n) 3) ≡ false → width * count ≤ length out → (αs : List Label) (size : ℕ) (after : List ℕ)
-      → αs ≡ carried p i i (k .0 - 1) → size ≡ length αs → after ≡ encode (map (read p cells) αs) ++ drop (width * size) out
-      → Writes p i k cells out (taken (width * count ∷ [])) after
+  pub later-all : (eqb count 0 || ltb (p .n) 3) ≡ false → valueSize current * count ≤ length out → (αs : List Label) (size : ℕ) (after : List ℕ)
+      → αs ≡ carried p i i (k .0 - 1) → size ≡ length αs → after ≡ encode current (map (read p cells) αs) ++ drop (valueSize current * size) out
+      → Writes p i k cells out (taken (valueSize current * count ∷ [])) after
   unfolding isTaken
   later-all t h αs size after x y z =
       let all = writes-all s cells out (idle-sent ∙ t) (omega (arith, count-sent)) in
       let labels : αs ≡ sent p i i k = x ∙ sym (sent-carried s later i) in
       record {
-        answer = ap (λ n. taken (width * n ∷ [])) count-sent ∙ all .answer;
-        out = z ∙ ap₂ (λ βs n. encode (map (read p cells) βs) ++ drop (width * n) out) labels (y ∙ ap length labels) ∙ all .out;
+        answer = ap (λ n. taken (valueSize current * n ∷ [])) count-sent ∙ all .answer;
+        out = z ∙ ap₂ (λ βs n. encode current (map (read p cells) βs) ++ drop (valueSize current * n) out) labels (y ∙ ap length labels) ∙ all .out;
       }
 
 -- What writing leaves.

@@ -5,7 +5,7 @@ use mathlib.Core.Bool.{cond}
 use mathlib.Core.List.{List, [], _∷_, _++_}
 use lib.Dec.{ltb}
 use lib.ListN.{length, drop}
-use Rattle.codec.specs.Codec.{encode}
+use Rattle.codec.specs.Codec.{current, encode}
 use Rattle.sets.specs.Search.{any}
 use Rattle.plan.specs.declared.plan.Plan.{Plan}
 use Rattle.schedule.specs.declared.rounds.Round.{Round}
@@ -15,7 +15,7 @@ use Rattle.protocol.specs.Calls.{isTaken}
 
 -- The bytes of the frame of board i.
 abbrev pub wire : Plan → ℕ → Round → List ℕ → List ℕ
-wire p i k cells = encode (frame p i i k cells)
+wire p i k cells = encode current (frame p i i k cells)
 
 -- The frame of board i: 16 if it is due to nobody, 17 if it does not fit; else it is written.
 pub record Writes (p : Plan) (i : ℕ) (k : Round) (cells before : List ℕ) (o : Outcome) (after : List ℕ) : Type 0 where

@@ -10,7 +10,7 @@ use lib.Dec.{eqb, ltb}
 use lib.ListN.{length, getD, set, take, drop, replicate, length-set, length-replicate, getD-replicate}
 use lib.Seq.{getD-set-same, getD-set-other}
 use borrow.Author.Tests.{eqb-true, eqb-false, eq-eqb, ne-eqb, ltb-true, ltb-false, lt-ltb, le-ltb, lt-leb}
-use Rattle.codec.specs.Codec.{encode, decode}
+use Rattle.codec.specs.Codec.{current, encode, decode}
 use Rattle.codec.proofs.Codec.{decode-encode}
 use Rattle.sets.specs.Sets.{member}
 use Rattle.sets.proofs.Tests.{cases, clash, and-l}
@@ -56,7 +56,7 @@ silent b out o x =
 
 module _ (h : Head) (good : GoodHead h) (cells₀ : List ℕ) (room : cellsNeeded ≤ length cells₀) where
   abbrev s : Setting
-  s = setting h cells₀
+  s = setting current h cells₀
 
   abbrev n : ℕ
   n = h .plan .n
@@ -179,7 +179,7 @@ module _ (h : Head) (good : GoodHead h) (cells₀ : List ℕ) (room : cellsNeede
   -- The session of a sheet's frames.
   module _ (sound : Sound s) (fs : List Frame) where
     abbrev a : Adversary
-    a = sheetAdversary h fs
+    a = sheetAdversary current h fs
 
     abbrev start : Stage
     start = record { recs = replicate 7 voidRecord; cells = cells₀ }
@@ -243,10 +243,10 @@ module _ (h : Head) (good : GoodHead h) (cells₀ : List ℕ) (room : cellsNeede
           let m = mid q i (omega arith) k in
           let there = ap₂ (λ t u. findFrame t u q (heard q i .rec .board) rest) (m .run) (m .round)
           ∙ ap (λ b. findFrame (stepRun (h .plan) (suc j)) (stepRound (h .plan) (suc j)) q b rest) (m .board) ∙ sought-left (h .plan) rounds-few j inside q i fs in
-          ap (λ x. handIn q x (heard q i)) (told-faulty h rest q f (heard q i) e) ∙ rw e (ap (λ x. handIn q (decoded x) (heard q i)) there)
+          ap (λ x. handIn q x (heard q i)) (told-faulty h rest q f (heard q i) e) ∙ rw e (ap (λ x. handIn q (decoded current x) (heard q i)) there)
 
       -- The dealer's frame.
-      dealt-is : member (h .plan .dealer) (h .faulty) ≡ false → dealing (h .plan) (h .word) ≡ taken (encode (h .word ∷ []))
+      dealt-is : member (h .plan .dealer) (h .faulty) ≡ false → dealing current (h .plan) (h .word) ≡ taken (encode current (h .word ∷ []))
       unfolding dealing setting
       dealt-is e =
           let below = sound .word-below e in
@@ -257,18 +257,18 @@ module _ (h : Head) (good : GoodHead h) (cells₀ : List ℕ) (room : cellsNeede
       unfolding hearFrom takeAll hears setting handIn dealtFrame isTaken
       dealer-heard q i f e d ef =
           let t = dealt-is (subst (λ x. member x (h .faulty) ≡ false) d e) in
-          let f-is : f ≡ encode (h .word ∷ []) = ef ∙ ap (λ o. cond (isTaken o) (o .values) []) t in
+          let f-is : f ≡ encode current (h .word ∷ []) = ef ∙ ap (λ o. cond (isTaken o) (o .values) []) t in
           ap (λ x. handIn q x (heard q i)) (told-healthy h rest q f (heard q i) e)
-          ∙ rw (e, eq-eqb q (h .plan .dealer) d) (ap (λ x. taking (heard q i) q x .board) (ap decode f-is ∙ decode-encode (h .word ∷ [])))
+          ∙ rw (e, eq-eqb q (h .plan .dealer) d) (ap (λ x. taking (heard q i) q x .board) (ap (decode current) f-is ∙ decode-encode current (h .word ∷ [])))
 
       -- The frame of a board that keeps cells.
       written : (q : ℕ) (b : Board) → Open b → q ≢ h .plan .dealer
-          → (frameFrom h q b ≡ wireOf b) ⊎ (sending b (replicate frameRoom 0) .answer .number ≢ 0)
+          → (frameFrom h q b ≡ wireOf b) ⊎ (sending b (replicate (frameRoom current) 0) .answer .number ≢ 0)
       written q b o ne =
           let r = b .rec in
-          let out = replicate {A = ℕ} frameRoom 0 in
+          let out = replicate {A = ℕ} (frameRoom current) 0 in
           cases (any (λ i. due (r .plan) (r .board) i (r .round)) (r .plan .n))
-          (λ x. let t = sends b out o (omega (arith, length-replicate {A = ℕ} frameRoom 0)) x in
+          (λ x. let t = sends b out o (omega (arith, length-replicate {A = ℕ} (frameRoom current) 0)) x in
           inl (sym (from-sender h q b (length (wireOf b)) out ne refl (sym t)) ∙ sending-gives b out (length (wireOf b)) t .frame))
           (λ x. inr (λ z. let y : ⊥ = omega (arith, sym (silent b out o x) ∙ z) in y))
 
@@ -283,18 +283,18 @@ module _ (h : Head) (good : GoodHead h) (cells₀ : List ℕ) (room : cellsNeede
           ap (λ x. handIn q x (heard q i)) (told-healthy h rest q f (heard q i) e)
           ∙ rw (e, ne-eqb q (h .plan .dealer) d)
           (⊎-elim
-          (λ x. ap (λ y. taking (heard q i) q y .board) (ap decode (ef ∙ x) ∙ decode-encode (frameOf (heard q q)) ∙ mq .sends))
-          (λ x. nothing q i f kq ki x ∙ sym (ap (λ y. taking (heard q i) q y .board) (sym (decode-encode g)) ∙ nothing q i (encode g) kq ki x))
+          (λ x. ap (λ y. taking (heard q i) q y .board) (ap (decode current) (ef ∙ x) ∙ decode-encode current (frameOf (heard q q)) ∙ mq .sends))
+          (λ x. nothing q i f kq ki x ∙ sym (ap (λ y. taking (heard q i) q y .board) (sym (decode-encode current g)) ∙ nothing q i (encode current g) kq ki x))
           (written q (heard q q) (mq .opened) d))
         where
-          nothing : (q i : ℕ) (y : List ℕ) → keeper s q ≡ true → keeper s i ≡ true → sending (heard q q) (replicate frameRoom 0) .answer .number ≢ 0
+          nothing : (q i : ℕ) (y : List ℕ) → keeper s q ≡ true → keeper s i ≡ true → sending (heard q q) (replicate (frameRoom current) 0) .answer .number ≢ 0
               → receiving (heard q i) q y .board ≡ heard q i
           nothing q i y kq ki x =
               let (below, _, _) = keeper-facts s a sound q kq in
               let mq = mid q q (omega arith) kq in
               let mi = mid q i (omega arith) ki in
               subst (λ b. receiving (heard q i) b y .board ≡ heard q i) (mq .board)
-              (unsent (heard q q) (heard q i) (replicate frameRoom 0) y (mq .opened) (omega (arith, length-replicate {A = ℕ} frameRoom 0)) (mi .plan ∙ sym (mq .plan)) (mi .round ∙ sym (mq .round)) x)
+              (unsent (heard q q) (heard q i) (replicate (frameRoom current) 0) y (mq .opened) (omega (arith, length-replicate {A = ℕ} (frameRoom current) 0)) (mi .plan ∙ sym (mq .plan)) (mi .round ∙ sym (mq .round)) x)
 
       -- Every board has heard one board more.
       one-heard : (q i : ℕ) (st : Stage) → q < n → Holds (heard q) st → keeper s i ≡ true
@@ -339,21 +339,21 @@ module _ (h : Head) (good : GoodHead h) (cells₀ : List ℕ) (room : cellsNeede
     final-stage = played-holds (steps (h .plan)) (omega arith)
 
     -- The cells at the end.
-    final-laid : (k : ℕ) → k ≤ n → laid (keeper s) c (λ i. at s a (steps (h .plan)) i .cells) k cells₀ ≡ finalCells h (finalBoards h fs cells₀) k cells₀
+    final-laid : (k : ℕ) → k ≤ n → laid (keeper s) c (λ i. at s a (steps (h .plan)) i .cells) k cells₀ ≡ finalCells h (finalBoards current h fs cells₀) k cells₀
     unfolding laid finalCells finalBoards keeper setting at replacePart replace
     final-laid zero l = refl
     final-laid (suc k) l =
         let rest = final-laid k (omega arith) in
-        let w = finalBoards h fs cells₀ in
+        let w = finalBoards current h fs cells₀ in
         cases (member k (h .faulty))
         (λ e. rw (e, lt-ltb k n l) rest)
         (λ e. cases (eqb k (h .plan .dealer))
         (λ d. rw (e, d, lt-ltb k n l) rest)
         (λ d. rw (e, d, lt-ltb k n l) (ap (replace (k * c) c (boardAt w k .cells)) rest)))
 
-    pub final-cells : played (steps (h .plan)) .cells ≡ finalCells h (finalBoards h fs cells₀) n cells₀
+    pub final-cells : played (steps (h .plan)) .cells ≡ finalCells h (finalBoards current h fs cells₀) n cells₀
     final-cells = final-stage .cells ∙ final-laid n (omega arith)
 
-    pub final-record : (i : ℕ) → keeper s i ≡ true → getD (played (steps (h .plan)) .recs) i noRecord ≡ boardAt (finalBoards h fs cells₀) i .rec
+    pub final-record : (i : ℕ) → keeper s i ≡ true → getD (played (steps (h .plan)) .recs) i noRecord ≡ boardAt (finalBoards current h fs cells₀) i .rec
     unfolding finalBoards at
     final-record i k = final-stage .recs i k

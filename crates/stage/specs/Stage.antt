@@ -4,6 +4,7 @@ use mathlib.Core.Bool.{Bool, false, not, _&&_, cond}
 use mathlib.Core.List.{List, []}
 use lib.Dec.{eqb}
 use lib.ListN.{length, getD, set}
+use Rattle.codec.specs.Codec.{current}
 use Rattle.sets.specs.Sets.{member}
 use Rattle.plan.specs.declared.plan.Plan.{Plan}
 use Rattle.tree.specs.Places.{cellCount}
@@ -59,7 +60,7 @@ onStage h f (suc k) st =
 
 -- What board i does: begin, or close.
 unfoldable pub acted : Plan → Act → ℕ → Board → Board
-acted p Begin i b = beginning p i (b .cells) .board
+acted p Begin i b = beginning current p i (b .cells) .board
 acted p Close i b = closing b .board
 
 abbrev pub actAll : Head → Act → ℕ → Stage → Stage

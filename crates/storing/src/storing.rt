@@ -11,13 +11,13 @@ use protocol::records::Slot;
 use sets::boards::member;
 use tree::nodes::child_index;
 ghost use mathlib.Core.Path.{_≡_};
-ghost use Rattle.codec.specs.Codec.{decode};
+ghost use Rattle.codec.specs.Codec.{current, decode};
 ghost use Rattle.protocol.specs.Rounds.{fill, counted};
 ghost use Rattle.frames.specs.Nodes.{labelsOf, entry, Storable};
 
 // Value number i of a frame; the default where it has none.
 fn entry_at(plan: Plan, frame: &[u8], i: usize) -> Value
-    ensures { λ v. ⌜ v ≡ entry plan (decode (now (frame .entry))) i ⌝ }
+    ensures { λ v. ⌜ v ≡ entry plan (decode current (now (frame .entry))) i ⌝ }
 {
     if i < value_count(frame) {
         return plan.value(value_at(frame, i));
@@ -28,7 +28,7 @@ fn entry_at(plan: Plan, frame: &[u8], i: usize) -> Value
 // A frame's values are stored at the nodes' children by board q; where values are lacking, the default.
 pub fn store_at(plan: Plan, level: u8, q: u8, nodes: &[u32], frame: &[u8], cells: &mut [Value])
     requires { ⌜ Storable plan level q (now nodes) (now cells) ⌝ }
-    ensures { λ _. ⌜ now (cells .exit) ≡ fill plan q (labelsOf plan level (now (nodes .entry))) (decode (now (frame .entry))) (now (cells .entry)) ⌝ }
+    ensures { λ _. ⌜ now (cells .exit) ≡ fill plan q (labelsOf plan level (now (nodes .entry))) (decode current (now (frame .entry))) (now (cells .entry)) ⌝ }
 {
     let n = plan.n;
     let start = level_start(n, level + 1);
@@ -52,7 +52,7 @@ pub fn store_frame(
     cells: &mut [Value],
 )
     requires { ⌜ Storable plan level q (now nodes) (now cells) ⌝ }
-    ensures { λ _. ⌜ now (cells .exit) ≡ fill plan q (labelsOf plan level (now (nodes .entry))) (counted list q (labelsOf plan level (now (nodes .entry))) (decode (now (frame .entry)))) (now (cells .entry)) ⌝ }
+    ensures { λ _. ⌜ now (cells .exit) ≡ fill plan q (labelsOf plan level (now (nodes .entry))) (counted list q (labelsOf plan level (now (nodes .entry))) (decode current (now (frame .entry)))) (now (cells .entry)) ⌝ }
 {
     let mut length: usize = 0;
     if value_count(frame) == nodes.len() && !member(as_set(list), q) {

@@ -9,7 +9,7 @@ use schedule::rounds::Round;
 use sets::boards::member;
 use storing::storing::store_frame;
 use walk::nodes::carried_nodes;
-ghost use Rattle.codec.specs.Codec.{decode};
+ghost use Rattle.codec.specs.Codec.{current, decode};
 ghost use Rattle.refusals.specs.Outcome.{verdict};
 ghost use Rattle.protocol.specs.Nodes.{sent, due};
 ghost use Rattle.frames.specs.Nodes.{LaterFrom};
@@ -28,7 +28,7 @@ pub fn take_later(
     cells: &mut [Value],
 ) -> Verdict
     requires { ⌜ LaterFrom plan (now holders) board q round (now cells) ⌝ }
-    ensures { λ v. ⌜ Takes plan q list marks (due plan q board round) (sent plan q board round) (decode (now (frame .entry))) (now (cells .entry)) (verdict v) (now (cells .exit)) ⌝ }
+    ensures { λ v. ⌜ Takes plan q list marks (due plan q board round) (sent plan q board round) (decode current (now (frame .entry))) (now (cells .entry)) (verdict v) (now (cells .exit)) ⌝ }
 {
     if q == board {
         return Verdict::Refused(Refusal::NotDue);

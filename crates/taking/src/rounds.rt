@@ -8,7 +8,7 @@ use refusals::refusal::Refusal;
 use refusals::refusal::Verdict;
 use schedule::rounds::Round;
 use tables::listed::table_of;
-ghost use Rattle.codec.specs.Codec.{decode};
+ghost use Rattle.codec.specs.Codec.{current, decode};
 ghost use Rattle.refusals.specs.Outcome.{verdict};
 ghost use Rattle.protocol.specs.Nodes.{sent, due};
 ghost use Rattle.frames.specs.Nodes.{InRound};
@@ -26,7 +26,7 @@ pub fn take(
     cells: &mut [Value],
 ) -> Verdict
     requires { ⌜ InRound plan board round (now cells) ⌝ }
-    ensures { λ v. ⌜ Takes plan q list marks (due plan q board round) (sent plan q board round) (decode (now (frame .entry))) (now (cells .entry)) (verdict v) (now (cells .exit)) ⌝ }
+    ensures { λ v. ⌜ Takes plan q list marks (due plan q board round) (sent plan q board round) (decode current (now (frame .entry))) (now (cells .entry)) (verdict v) (now (cells .exit)) ⌝ }
 {
     let n = plan.n;
     let k = round.0;

@@ -11,10 +11,10 @@ use lib.Dec.{eqb}
 use lib.ListN.{length, set, replicate, length-set}
 use lib.Seq.{getD-set-same, getD-set-other}
 use borrow.Author.Tests.{eqb-true, eqb-false, ne-eqb}
+use Rattle.codec.specs.Codec.{blank}
 use Rattle.sets.specs.Sets.{member}
 use Rattle.sets.specs.Only.{same}
 use Rattle.sets.proofs.Tests.{cases}
-use Rattle.tree.specs.Cells.{blank}
 use Rattle.voting.specs.Worth.{worth, childTable}
 use Rattle.voting.specs.Tables.{at}
 

@@ -9,6 +9,7 @@ use mathlib.Core.Option.{Option, some, none}
 use native.Mathlib.Omega.{arith}
 use lib.Dec.{eqb, ltb}
 use borrow.Author.Tests.{eqb-true, eqb-false, ltb-true, lt-ltb}
+use Rattle.codec.specs.Codec.{blank}
 use Rattle.sets.specs.Search.{any}
 use Rattle.sets.specs.Sets.{member}
 use Rattle.sets.specs.Only.{only}
@@ -19,7 +20,6 @@ use Rattle.sets.proofs.Tolerated.{tolerated-empty}
 use Rattle.sets.proofs.Only.{only-hit, only-some, only-or}
 use Rattle.plan.specs.declared.plan.Plan.{Plan}
 use Rattle.plan.specs.Listed.{listed}
-use Rattle.tree.specs.Cells.{blank}
 use Rattle.voting.specs.Worth.{worth}
 use Rattle.voting.specs.Tables.{at, agreeing, elected, voted}
 use Rattle.tree.proofs.Collect.{setOf-none}

@@ -56,7 +56,7 @@ record Wrote (c : Call) (b : Board) : Type 0 where
 -- Every other call leaves the list alone.
 does : (c : Call) (b : Board) → Kept b → (leaves c b .rec .list ≡ b .rec .list) ⊎ Wrote c b
 unfolding leaves receiving caller answers closing
-does (receives j q f) b k = inl (taking-list b q (decode f))
+does (receives j q f) b k = inl (taking-list b q (decode (b .width) f))
 does (sends j out) b k = inl refl
 does (closes j) b k =
     cases (isTaken (judgeOpen b))
@@ -149,7 +149,7 @@ begun-fresh s i e = rw (taken-is (judgeBeginning (s .plan) i (s .buffer i)) e) r
 begun-kept : (s : Setting) (i : ℕ) → judgeBeginning (s .plan) i (s .buffer i) .number ≡ 0 → Kept (begun s i)
 unfolding begun
 begun-kept s i e = record {
-  reached = reached-begun (s .plan) i (s .buffer i) e;
+  reached = reached-begun (s .width) (s .plan) i (s .buffer i) e;
   seven = ap length (begun-fresh s i e);
 }
 

@@ -33,4 +33,4 @@ pub record WrittenOnce (s : Setting) (calls : List Call) (i : ℕ) : Type 0 wher
 
 -- For every board i that was begun.
 abbrev pub EntriesOnce : Type 0
-EntriesOnce = (s : Setting) (calls : List Call) (i : ℕ) → beginning (s .plan) i (s .buffer i) .answer .number ≡ 0 → WrittenOnce s calls i
+EntriesOnce = (s : Setting) (calls : List Call) (i : ℕ) → beginning (s .width) (s .plan) i (s .buffer i) .answer .number ≡ 0 → WrittenOnce s calls i

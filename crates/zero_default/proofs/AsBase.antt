@@ -9,7 +9,7 @@ use native.Mathlib.Omega.{arith}
 use lib.Dec.{eqb, leb, ltb}
 use lib.ListN.{length, getD, take, drop}
 use borrow.Author.Tests.{eqb-true, eqb-false, eq-eqb, ne-eqb, ltb-true, ltb-false, lt-ltb, le-ltb, lt-leb}
-use Rattle.codec.specs.Codec.{numberAt}
+use Rattle.codec.specs.Codec.{one, numberAt}
 use Rattle.sets.specs.Sets.{within, boards}
 use Rattle.sets.specs.Structure.{tolerated}
 use Rattle.sets.proofs.Tests.{cases}
@@ -97,7 +97,7 @@ module _ (n m : ℕ) (rest : List ℕ) where
   misfit-zero : (ltb (length long) 8 || not (eqb (length long) (8 + count))) ≡ (ltb (length short) 7 || not (eqb (length short) (7 + count)))
   misfit-zero = λ j. ltb-one (length short) 7 j || not (eqb-one (length short) (7 + count) (8 + count) (omega arith) j)
 
-  judges-zero : judgeHead long ≡ baseJudgeHead short
+  judges-zero : judgeHead one long ≡ baseJudgeHead short
   unfolding judgeHead baseJudgeHead numberAt
   judges-zero = λ j.
       cond (misfit-zero j) (refused 22)
@@ -105,18 +105,18 @@ module _ (n m : ℕ) (rest : List ℕ) where
       (andThen (cond (leb m (getD rest 2 0)) (refused 18) (taken []))
       (cond (within (faulty-zero j) (boards n) && tolerated sets (faulty-zero j)) (taken []) (refused 23))))
 
-  names-zero : headOf long ≡ baseHead short
+  names-zero : headOf one long ≡ baseHead short
   unfolding headOf baseHead numberAt
   names-zero = λ j. record { plan = planned-zero n sets settings refl j; faulty = faulty-zero j; word = getD rest 2 0 }
 
-  reads-zero : (ls : List Line) → readHead long ls ≡ baseReadHead short ls
+  reads-zero : (ls : List Line) → readHead one long ls ≡ baseReadHead short ls
   unfolding baseReadHead
   reads-zero ls =
-      let base : Reading = cond (eqb (judgeHead long .number) 0) (readFrames (headOf long) none 2 ls) (refusedReading (headOf long) 1 (judgeHead long)) in
-      let same : readHead long ls ≡ base =
-      cases (eqb (judgeHead long .number) 0)
-      (λ t. head-right long ls (eqb-true (judgeHead long .number) 0 t) ∙ ap (λ b. cond b (readFrames (headOf long) none 2 ls) (refusedReading (headOf long) 1 (judgeHead long))) (sym t))
-      (λ t. head-wrong long ls (eqb-false (judgeHead long .number) 0 t) ∙ ap (λ b. cond b (readFrames (headOf long) none 2 ls) (refusedReading (headOf long) 1 (judgeHead long))) (sym t)) in
+      let base : Reading = cond (eqb (judgeHead one long .number) 0) (readFrames (headOf one long) none 2 ls) (refusedReading (headOf one long) 1 (judgeHead one long)) in
+      let same : readHead one long ls ≡ base =
+      cases (eqb (judgeHead one long .number) 0)
+      (λ t. head-right one long ls (eqb-true (judgeHead one long .number) 0 t) ∙ ap (λ b. cond b (readFrames (headOf one long) none 2 ls) (refusedReading (headOf one long) 1 (judgeHead one long))) (sym t))
+      (λ t. head-wrong one long ls (eqb-false (judgeHead one long .number) 0 t) ∙ ap (λ b. cond b (readFrames (headOf one long) none 2 ls) (refusedReading (headOf one long) 1 (judgeHead one long))) (sym t)) in
       same ∙ (λ j. cond (eqb (judges-zero j .number) 0) (readFrames (names-zero j) none 2 ls) (refusedReading (names-zero j) 1 (judges-zero j)))
 
 pub zero-as-base : ZeroAsBase

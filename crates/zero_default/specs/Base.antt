@@ -1,12 +1,11 @@
 -- The base: what stood before 02 b, which is 01 with 02 a (an empty list is admitted). Here only what 02 b says otherwise, with 01's
--- numbers written out: 0 for the default, no number 26, a head without a default. Only `Zero` and its proof use these.
+-- numbers written out: 0 for the default, no number 26, a head without a default, one byte a value. Only `Zero` and its proof use these.
 use Prim.Native.Nat.{ℕ, _+_, _-_}
 use mathlib.Core.Bool.{not, _&&_, _||_, cond}
 use mathlib.Core.List.{List, [], _∷_}
 use mathlib.Core.Option.{none, Option·getD}
 use lib.Dec.{eqb, leb, ltb}
 use lib.ListN.{length, getD, take, drop}
-use Rattle.codec.specs.Codec.{numberAt}
 use Rattle.sets.specs.Sets.{within, boards}
 use Rattle.sets.specs.Structure.{tolerated}
 use Rattle.refusals.specs.Outcome.{Outcome, taken, refused, andThen}
@@ -50,10 +49,10 @@ abbrev pub baseSets : List ℕ → List ℕ
 baseSets bytes = take (baseCount bytes) (drop 6 bytes)
 
 abbrev pub baseSettings : List ℕ → Settings
-baseSettings bytes = record { dealer = getD bytes 2 0; span = numberAt bytes 1; default = 0; depth = getD bytes 3 0 }
+baseSettings bytes = record { dealer = getD bytes 2 0; span = getD bytes 1 0; default = 0; depth = getD bytes 3 0 }
 
 abbrev pub baseWord : List ℕ → ℕ
-baseWord bytes = numberAt bytes 4
+baseWord bytes = getD bytes 4 0
 
 abbrev pub baseFaulty : List ℕ → ℕ
 baseFaulty bytes = getD bytes (6 + baseCount bytes) 0

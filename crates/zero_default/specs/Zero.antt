@@ -5,6 +5,7 @@ use mathlib.Core.Path.{_≡_}
 use mathlib.Core.Bool.{cond}
 use mathlib.Core.List.{List, [], _∷_}
 use lib.Dec.{eqb}
+use Rattle.codec.specs.Codec.{one}
 use Rattle.settings.specs.declared.settings.Settings.{Settings}
 use Rattle.settings.specs.Planning.{planning}
 use Rattle.plan.specs.declared.plan.Plan.{Plan}
@@ -38,11 +39,11 @@ pub record ZeroPlanned (n : ℕ) (sets : List ℕ) (s : Settings) : Type 0 where
   pub answer : (count : ℕ) → planning n count sets s ≡ basePlanning n count sets s
   pub plan : planned n sets s ≡ basePlanned n sets s
 
--- A head with 00 right after the span.
+-- A head of one-byte values with 00 right after the span.
 pub record ZeroHead (n m : ℕ) (rest : List ℕ) : Type 0 where
-  pub judges : judgeHead (n ∷ m ∷ 0 ∷ rest) ≡ baseJudgeHead (n ∷ m ∷ rest)
-  pub names : headOf (n ∷ m ∷ 0 ∷ rest) ≡ baseHead (n ∷ m ∷ rest)
-  pub reads : (ls : List Line) → readHead (n ∷ m ∷ 0 ∷ rest) ls ≡ baseReadHead (n ∷ m ∷ rest) ls
+  pub judges : judgeHead one (n ∷ m ∷ 0 ∷ rest) ≡ baseJudgeHead (n ∷ m ∷ rest)
+  pub names : headOf one (n ∷ m ∷ 0 ∷ rest) ≡ baseHead (n ∷ m ∷ rest)
+  pub reads : (ls : List Line) → readHead one (n ∷ m ∷ 0 ∷ rest) ls ≡ baseReadHead (n ∷ m ∷ rest) ls
 
 pub record ZeroAsBase : Type 0 where
   pub puts : (p : Plan) → p .default ≡ 0 → ZeroPut p

@@ -5,8 +5,8 @@ use mathlib.Core.Path.{_≡_, refl, ap, _∙_}
 use native.Mathlib.Omega.{arith}
 use lib.ListN.{length, set, length-set}
 use borrow.Author.Needs.{needs}
+use Rattle.codec.specs.Codec.{blank}
 use Rattle.tree.specs.Places.{cellCount}
-use Rattle.tree.specs.Cells.{blank}
 use Rattle.tree.proofs.Within.{count-within}
 use Rattle.protocol.proofs.Judgement.{plan-facts}
 use Rattle.clearing.proofs.Cleared.{cleared, cleared-start, cleared-more}

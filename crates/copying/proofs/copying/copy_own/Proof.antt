@@ -5,7 +5,7 @@ use mathlib.Core.Path.{refl, _∙_}
 use native.Mathlib.Omega.{arith}
 use lib.ListN.{length, take}
 use borrow.Author.Needs.{needs}
-use Rattle.codec.specs.Codec.{width}
+use Rattle.codec.specs.Codec.{current, valueSize}
 use Rattle.protocol.proofs.Few.{carried-few}
 use Rattle.frames.proofs.Listed.{carried-walkable, front-fits, front-few, front-nodes, front-without, front-labels}
 use Rattle.copying.proofs.Copied.{own-copied}
@@ -60,7 +60,7 @@ part-store-at-end-2 c =
     let e = at-shared-slice-known .before in
     let x = at-carried-nodes .carried-nodes in
     let y = at-write-at .write-at in
-    let fits : width * x .result ≤ length (y .last .1 .1 .1 .1 .0) =
+    let fits : valueSize current * x .result ≤ length (y .last .1 .1 .1 .1 .0) =
     omega (arith, x .ensures .counted, carried-few (e .args .plan) (e .args .board) (e .args .board) (e .args .round .0 - 1) (e .pre .standing .dealer-below) (e .pre .standing .most-boards) (e .pre .standing .board-below), y .kept .1 .1 .1 .1 .0) in
     fits
 

@@ -2,6 +2,7 @@
 -- Assumes nothing.
 use mathlib.Core.Path.{refl, sym, ap₂, _∙_}
 use borrow.Author.Needs.{needs}
+use Rattle.codec.specs.Codec.{current}
 use Rattle.codec.proofs.Codec.{decode-none}
 use Rattle.protocol.specs.Rounds.{fill}
 use Rattle.frames.proofs.Listed.{carried-walkable, front-fits, front-nodes, front-without, front-labels, sent-carried}
@@ -50,7 +51,7 @@ returns c =
     let l = at-carried-nodes .carried-nodes .ensures in
     at-store-at .store-at .ensures
     ∙ ap₂ (λ αs vs. fill (e .args .plan) (e .args .q) αs vs (e .args .cells .now))
-    (front-labels (e .pre .standing) (e .pre .later) (e .args .q) l ∙ sym (sent-carried (e .pre .standing) (e .pre .later) (e .args .q))) decode-none
+    (front-labels (e .pre .standing) (e .pre .later) (e .args .q) l ∙ sym (sent-carried (e .pre .standing) (e .pre .later) (e .args .q))) (decode-none current)
 
 pub silence-spec : {M : Type 1} → statement M
 silence-spec =

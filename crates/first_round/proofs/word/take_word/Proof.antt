@@ -6,7 +6,7 @@ use native.Mathlib.Omega.{arith}
 use lib.Dec.{eqb}
 use borrow.Author.Needs.{needs}
 use borrow.Author.Tests.{eq-eqb, ne-eqb}
-use Rattle.codec.specs.Codec.{decode}
+use Rattle.codec.specs.Codec.{current, decode}
 use Rattle.refusals.specs.Outcome.{refusal, verdict}
 use Rattle.tree.proofs.Places.{some-cell}
 use Rattle.first_round.proofs.Takes.{takes-none, takes-again, takes-root}
@@ -18,7 +18,7 @@ unfolding verdict refusal
 returns c =
     let asked = c .before in
     let a = asked .before .before .before .args in
-    takes-none a.plan a.q a.list a.marks (eqb a.q (a.plan .dealer)) ([] ∷ []) (decode (a.frame .now)) (a.cells .now) (ne-eqb _ _ (c .if1 .taken))
+    takes-none a.plan a.q a.list a.marks (eqb a.q (a.plan .dealer)) ([] ∷ []) (decode current (a.frame .now)) (a.cells .now) (ne-eqb _ _ (c .if1 .taken))
 
 returns-2 : tie.Need-returns-2
 unfolding verdict refusal
@@ -26,7 +26,7 @@ returns-2 c =
     let own = c .before in
     let asked = own .before in
     let a = asked .before .before .before .args in
-    takes-again a.plan a.q a.list a.marks (eqb a.q (a.plan .dealer)) ([] ∷ []) (decode (a.frame .now)) (a.cells .now)
+    takes-again a.plan a.q a.list a.marks (eqb a.q (a.plan .dealer)) ([] ∷ []) (decode current (a.frame .now)) (a.cells .now)
     (eq-eqb _ _ (own .if1 .left)) (sym (asked .member .ensures) ∙ c .if2 .taken)
 
 slice-write-cells : tie.Need-slice-write-cells
@@ -43,7 +43,7 @@ returns-3 c =
     let own = new .before in
     let asked = own .before in
     let a = asked .before .before .before .args in
-    takes-root a.plan a.list a.q (decode (a.frame .now)) a.marks (eqb a.q (a.plan .dealer)) (a.cells .now) _
+    takes-root a.plan a.list a.q (decode current (a.frame .now)) a.marks (eqb a.q (a.plan .dealer)) (a.cells .now) _
     (eq-eqb _ _ (own .if1 .left)) (sym (asked .member .ensures) ∙ new .if2 .left) (c .word-of .ensures)
 
 pub take-word-spec : {M : Type 1} → statement M

@@ -7,7 +7,7 @@ use native.Mathlib.Omega.{arith}
 use lib.ListN.{length, getD, drop}
 use lib.Seq.{take-all}
 use borrow.Author.Needs.{needs}
-use Rattle.codec.specs.Codec.{width, encode, written}
+use Rattle.codec.specs.Codec.{current, valueSize, encode, written}
 use Rattle.codec.proofs.Codec.{written-none}
 use Rattle.tree.specs.Places.{place}
 use Rattle.protocol.specs.Nodes.{read}
@@ -26,7 +26,7 @@ abbrev μ-loop : tie.MeasureT-loop
 μ-loop plan level nodes cells out₀ start i₀ out i = length nodes - i
 
 loop-holds : tie.Need-loop-holds Inv-loop μ-loop
-loop-holds c = (omega arith, refl, written-none _)
+loop-holds c = (omega arith, refl, written-none current _)
 
 -- The cell that is read.
 abbrev Own : tie.After-index-of Inv-loop μ-loop → Type 0
@@ -80,11 +80,11 @@ loop-again c =
     let here = nodeAt a.plan a.level (getD (a.nodes .now) l.i 0) in
     let v = valued .value .result in
     let reads : v ≡ read a.plan (a.cells .now) (getD αs l.i []) =
-    valued .value .ensures ∙ read-place a.plan (a.cells .now) here _ (spot .0) (spot .1)
+    valued .value .ensures ∙ read-place a.plan (a.cells .now) here _ (spot .0)
     ∙ ap (read a.plan (a.cells .now)) (sym (labels-at a.plan a.level (a.nodes .now) l.i (omega arith))) in (
       omega arith,
       written-out .put-value .kept .0 ∙ l .inv .1,
-      written-out .put-value .ensures ∙ ap (written l.i v) (l .inv .2)
+      written-out .put-value .ensures ∙ ap (written current l.i v) (l .inv .2)
           ∙ write-step a.plan (a.cells .now) (a.out .now) αs l.i v (omega (arith, labels-length a.plan a.level (a.nodes .now))) reads,
     )
 
@@ -103,8 +103,8 @@ returns c =
     let size = labels-length a.plan a.level (a.nodes .now) in
     let end : l.i ≡ length (a.nodes .now) = omega arith in
     l .inv .2
-    ∙ ap (λ βs. encode (map (read a.plan (a.cells .now)) βs) ++ drop (width * l.i) (a.out .now)) (take-all l.i αs (omega arith))
-    ∙ ap (λ k. encode (map (read a.plan (a.cells .now)) αs) ++ drop (width * k) (a.out .now)) end
+    ∙ ap (λ βs. encode current (map (read a.plan (a.cells .now)) βs) ++ drop (valueSize current * l.i) (a.out .now)) (take-all l.i αs (omega arith))
+    ∙ ap (λ k. encode current (map (read a.plan (a.cells .now)) αs) ++ drop (valueSize current * k) (a.out .now)) end
 
 pub write-at-spec : {M : Type 1} → statement M
 write-at-spec =

@@ -4,6 +4,7 @@ use Prim.Native.Nat.{_+_}
 use mathlib.Core.Path.{_≡_, sym, ap, ap₂, _∙_}
 use native.Mathlib.Omega.{arith}
 use borrow.Author.Needs.{needs}
+use Rattle.codec.specs.Codec.{current}
 use Rattle.refusals.specs.Outcome.{refused, refusal, verdict, andThen}
 use Rattle.sheet.specs.Sheet.{setsPlace, judgeHead}
 use Rattle.hex.proofs.Bytes.{all}
@@ -22,7 +23,7 @@ returns c =
     let listed = settled .before .before in
     let counted = listed .before in
     let line = counted .before .before .args .line .now in
-    let wrong : judgeHead (all line) ≡ refused 22 = head-wrong line (λ z. c .if1 .taken (z ∙ ap (λ x. x + setsPlace + 1) (sym (counted .byte-at .ensures)))) in
+    let wrong : judgeHead current (all line) ≡ refused 22 = head-wrong line (λ z. c .if1 .taken (z ∙ ap (λ x. x + setsPlace current + 1) (sym (counted .byte-at .ensures)))) in
     record { judges = sym wrong; gives = λ ok. absurd (let z : 22 ≡ 0 = ap (λ o. o .number) (sym wrong) ∙ ok in omega arith) }
 
 returns-2 : tie.Need-returns-2

@@ -4,6 +4,7 @@ use Prim.Native.Nat.{ℕ}
 use mathlib.Core.Path.{sym, ap, _∙_}
 use native.Mathlib.Omega.{arith}
 use lib.ListN.{length, take, length-replicate}
+use Rattle.codec.specs.Codec.{current}
 use Rattle.refusals.proofs.Outcomes.{refusal-number}
 use Rattle.protocol.specs.Limits.{frameRoom}
 use Rattle.protocol.specs.Answers.{sentSays}
@@ -19,7 +20,7 @@ dealer-frame-requires : tie.Need-dealer-frame-requires
 dealer-frame-requires c κs =
     let then1 = c .before in
     let start = then1 .before .before .before in
-    let e = ap length (start .pre) ∙ length-replicate {A = ℕ} frameRoom 0 in omega (arith, e)
+    let e = ap length (start .pre) ∙ length-replicate {A = ℕ} (frameRoom current) 0 in omega (arith, e)
 
 returns : tie.Need-returns
 returns c =
@@ -43,7 +44,7 @@ returns-2 c =
     let d = at-send .send .ensures in
     let b : Board = boardWith a.r (a.cells .now) in
     let e = ap sentSays (sym (at-k .k .given .1)) ∙ ap (λ (x : Output). x .answer) d in
-    let size = ap length (s .pre) ∙ length-replicate {A = ℕ} frameRoom 0 in
+    let size = ap length (s .pre) ∙ length-replicate {A = ℕ} (frameRoom current) 0 in
     record {
       fits = omega (arith, size, sending-gives b (a.frame .now) k (sym e) .fits);
       front = ap (λ (x : Output). take k (x .out)) d ∙ from-sender a.head a.q b k (a.frame .now) (else1 .if1 .left) (s .pre) e;

@@ -4,6 +4,7 @@ use Prim.Native.Nat.{_-_}
 use mathlib.Core.Path.{_≡_, sym, ap, ap₂, subst, _∙_}
 use mathlib.Core.List.{[], _∷_}
 use lib.ListN.{replicate}
+use Rattle.codec.specs.Codec.{current}
 use Rattle.schedule.specs.Schedule.{steps}
 use Rattle.refusals.specs.Outcome.{taken}
 use Rattle.protocol.specs.Calls.{voidRecord}
@@ -25,7 +26,7 @@ play-rounds-requires c κs =
     let s = at-shared-slice-known .before in
     let a = s .args in
     subst (λ x. Ready x (a.cells .now) (a.text .now) a.from) (sym (s .pre .heads))
-    (subst (λ k. Ready (reading (a.text .now) .head) (a.cells .now) (a.text .now) k) (sym (s .pre .begins))
+    (subst (λ k. Ready (reading current (a.text .now) .head) (a.cells .now) (a.text .now) k) (sym (s .pre .begins))
     (head-ready (a.text .now) (a.cells .now) (a.out .now) (s .pre .accepted) (s .pre .roomy) (s .pre .wide)))
 
 returns : tie.Need-returns
@@ -44,7 +45,7 @@ returns c =
     let ef = ap (framesFrom t) (s .pre .begins) ∙ sym (sheet-frames t (s .pre .accepted)) in
     let start : Stage = record { recs = replicate 7 voidRecord; cells = a.cells .now } in
     let st : Stage = record { recs = g .result; cells = g .last .1 .1 .1 .0 } in
-    let es : st ≡ playSteps (reading t .head) (reading t .frames) (steps (reading t .head .plan)) start =
+    let es : st ≡ playSteps (reading current t .head) (reading current t .frames) (steps (reading current t .head .plan)) start =
     g .ensures ∙ ap₂ (λ x y. playSteps x y (steps (x .plan)) start) eh ef in
     ap (λ (o : Output). record { answer = taken (o .count ∷ []); cells = st .cells; out = o .out }) (d .ensures)
     ∙ sheet-played t (a.cells .now) (a.out .now) (s .pre .accepted) (s .pre .roomy) (s .pre .wide) st _ es (ap (λ x. boardLines x (st .recs) (a.out .now)) eh)

@@ -5,6 +5,7 @@ use mathlib.Core.List.{[]}
 use lib.Seq.{sets}
 use borrow.Author.Needs.{needs}
 use borrow.Author.Tests.{eq-eqb, ne-eqb}
+use Rattle.codec.specs.Codec.{current}
 use Rattle.sets.specs.Structure.{heldAt}
 use Rattle.plan.specs.Listed.{listed}
 use Rattle.sheet.specs.Playing.{printed}
@@ -31,7 +32,7 @@ returns-2 c =
     let list = reading .as-set .ensures in
     let place = placing .held-at .ensures ∙ ap (heldAt (listed (a.head .plan))) list in
     rw (ne-eqb a.i (a.head .plan .dealer) (other .if1 .left))
-    (printing .print-line2 .ensures ∙ ap₂ (λ s k. sets (a.out .now) a.at (printed a.i (a.r .decision) s k [])) list place)
+    (printing .print-line2 .ensures ∙ ap₂ (λ s k. sets (a.out .now) a.at (printed current a.i (a.r .decision) s k [])) list place)
 
 pub print-board-spec : {M : Type 1} → statement M
 print-board-spec =

@@ -8,6 +8,7 @@ use native.Mathlib.Omega.{arith}
 use lib.ListN.{length}
 use lib.Seq.{sets, length-sets}
 use borrow.Author.Needs.{needs}
+use Rattle.codec.specs.Codec.{current}
 use Rattle.sets.specs.Sets.{member}
 use Rattle.sets.proofs.Tests.{not-t, not-f}
 use Rattle.sheet.specs.Playing.{printBoards}
@@ -19,7 +20,7 @@ use Rattle.printer.proofs.printing.print_boards.Tie as tie
 
 abbrev Inv-loop : tie.InvT-loop
 Inv-loop head out₀ records n used₀ i₀ out used i =
-    let text = printBoards head (boardsOf records) 0 i in
+    let text = printBoards current head (boardsOf records) 0 i in
     (i ≤ n) × (used ≡ length text) × (out ≡ sets out₀ 0 text)
 
 abbrev μ-loop : tie.MeasureT-loop
@@ -49,7 +50,7 @@ print-board-requires c κs =
     let start = else1 .before .before in
     let l = turn .loop in
     let a = start .args in
-    let text = printBoards a.head (boardsOf a.t2) 0 l.i in
+    let text = printBoards current a.head (boardsOf a.t2) 0 l.i in
     omega (arith, l .inv .1, print-short a.head (boardsOf a.t2) l.i, ap length (l .inv .2), length-sets (a.out .now) 0 text)
 
 add-used : tie.Need-add-used Inv-loop μ-loop
@@ -92,7 +93,7 @@ same-length c =
     let start = else1 .before .before in
     let a = start .args in
     let l = at-loop .loop in
-    ap length (l .inv .2) ∙ length-sets (a.out .now) 0 (printBoards a.head (boardsOf a.t2) 0 l.i)
+    ap length (l .inv .2) ∙ length-sets (a.out .now) 0 (printBoards current a.head (boardsOf a.t2) 0 l.i)
 
 returns-3 : tie.Need-returns-3 Inv-loop μ-loop
 returns-3 c =
@@ -101,9 +102,9 @@ returns-3 c =
     let start = else1 .before .before in
     let a = start .args in
     let l = at-loop .loop in
-    let text = printBoards a.head (boardsOf a.t2) 0 l.i in
+    let text = printBoards current a.head (boardsOf a.t2) 0 l.i in
     let e : text ≡ boardLines a.head a.t2 (a.out .now) =
-    ap (printBoards a.head (boardsOf a.t2) 0) (let z : l.i ≡ a.head .plan .n = omega arith in z) ∙ sym (all-lines a.head a.t2 (a.out .now) (omega arith) (omega arith)) in
+    ap (printBoards current a.head (boardsOf a.t2) 0) (let z : l.i ≡ a.head .plan .n = omega arith in z) ∙ sym (all-lines a.head a.t2 (a.out .now) (omega arith) (omega arith)) in
     ap₂ (λ k o. record { count = k; out = o }) (l .inv .1)
     (l .inv .2 ∙ stores-first (a.out .now) text (omega (arith, print-short a.head (boardsOf a.t2) l.i)))
     ∙ ap (λ t. atFront t (a.out .now)) e

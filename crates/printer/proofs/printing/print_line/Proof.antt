@@ -6,6 +6,7 @@ use mathlib.Core.List.{[]}
 use lib.ListN.{set, length-set}
 use lib.Seq.{sets}
 use borrow.Author.Needs.{needs}
+use Rattle.codec.specs.Codec.{current}
 use Rattle.hex.specs.Hex.{hexByte}
 use Rattle.sheet.specs.Playing.{hexValue}
 use Rattle.printer.proofs.Stores.{line-stores}
@@ -43,7 +44,7 @@ returns c =
     let third = at-print-byte2 .print-byte2 .ensures in
     let second = at-print-value .print-value .ensures in
     let first = at-print-byte .print-byte .ensures in
-    let listed = third ∙ ap (λ o. sets o (a.at + 4) (hexByte a.list [])) (second ∙ ap (λ o. sets o (a.at + 2) (hexValue a.decision [])) first) in
+    let listed = third ∙ ap (λ o. sets o (a.at + 4) (hexByte a.list [])) (second ∙ ap (λ o. sets o (a.at + 2) (hexValue current a.decision [])) first) in
     ap (λ o. set o (a.at + 8) 10) (fourth ∙ ap (λ o. sets o (a.at + 6) (hexByte a.place [])) listed)
     ∙ line-stores (a.out .now) a.at a.board a.decision a.list a.place
 

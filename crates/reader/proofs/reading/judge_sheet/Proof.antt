@@ -5,6 +5,7 @@ use mathlib.Core.Path.{sym, ap, _∙_}
 use native.Mathlib.Omega.{arith}
 use lib.ListN.{getD, take, drop}
 use borrow.Author.Needs.{needs}
+use Rattle.codec.specs.Codec.{current}
 use Rattle.refusals.specs.Outcome.{verdict}
 use Rattle.plan.specs.Calls.{judged}
 use Rattle.hex.proofs.Bytes.{all}
@@ -37,7 +38,7 @@ judge-frames-requires c κs =
     let b = sheet-begun text end (start .pre .ends) (ap (λ o. o .number) (sym first)) in
     let top = all (take (end - 0) text) in
     record {
-      accepted = ap (λ h. judged (h .plan) .number) (start .pre .read .gives (b .accepted)) ∙ head-good top (b .accepted) .accepted;
+      accepted = ap (λ h. judged (h .plan) .number) (start .pre .read .gives (b .accepted)) ∙ head-good current top (b .accepted) .accepted;
       after-first = omega (arith, sheet-far text end (start .pre .ends) b);
     }
 

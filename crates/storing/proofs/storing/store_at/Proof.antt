@@ -6,7 +6,7 @@ use native.Mathlib.Omega.{arith}
 use mathlib.Core.List.{[], _∷_}
 use lib.ListN.{length, getD, drop, length-set, drop-of-length-le}
 use borrow.Author.Needs.{needs}
-use Rattle.codec.specs.Codec.{decode}
+use Rattle.codec.specs.Codec.{current, decode}
 use Rattle.tree.specs.Places.{place, childIndex}
 use Rattle.protocol.specs.Rounds.{fill}
 use Rattle.frames.specs.Nodes.{nodeAt, labelsOf}
@@ -18,7 +18,7 @@ use Rattle.storing.proofs.storing.store_at.Tie as tie
 abbrev Inv-loop : tie.InvT-loop
 Inv-loop plan level q nodes frame cells₀ n start i₀ cells i =
     let αs = labelsOf plan level nodes in
-    (i ≤ length nodes) × (length cells ≡ length cells₀) × (fill plan q (drop i αs) (drop i (decode frame)) cells ≡ fill plan q αs (decode frame) cells₀)
+    (i ≤ length nodes) × (length cells ≡ length cells₀) × (fill plan q (drop i αs) (drop i (decode current frame)) cells ≡ fill plan q αs (decode current frame) cells₀)
 
 abbrev μ-loop : tie.MeasureT-loop
 μ-loop plan level q nodes frame cells₀ n start i₀ cells i = length nodes - i
@@ -80,7 +80,7 @@ loop-again c =
     let αs = labelsOf a.plan a.level (a.nodes .now) in (
       omega arith,
       length-set l.cells _ (c .entry-at .result) ∙ l .inv .1,
-      sym (fill-step a.plan a.q (nodeAt a.plan a.level (getD (a.nodes .now) l.i 0)) (drop (l.i + 1) αs) (drop l.i αs) l.i _ (c .entry-at .result) (decode (a.frame .now)) l.cells
+      sym (fill-step a.plan a.q (nodeAt a.plan a.level (getD (a.nodes .now) l.i 0)) (drop (l.i + 1) αs) (drop l.i αs) l.i _ (c .entry-at .result) (decode current (a.frame .now)) l.cells
           (labels-drop a.plan a.level l.i (a.nodes .now) (omega arith)) (stroke c .0) (c .entry-at .ensures))
           ∙ l .inv .2,
     )
@@ -99,7 +99,7 @@ returns c =
     let a = start .args in
     let αs = labelsOf a.plan a.level (a.nodes .now) in
     let end : drop l.i αs ≡ [] = drop-of-length-le αs (let z : length αs ≤ l.i = omega (arith, labels-length a.plan a.level (a.nodes .now)) in z) in
-    sym (ap (λ βs. fill a.plan a.q βs (drop l.i (decode (a.frame .now))) l.cells) end) ∙ l .inv .2
+    sym (ap (λ βs. fill a.plan a.q βs (drop l.i (decode current (a.frame .now))) l.cells) end) ∙ l .inv .2
 
 pub store-at-spec : {M : Type 1} → statement M
 store-at-spec =

@@ -7,7 +7,7 @@ use native.Mathlib.Omega.{arith}
 use lib.ListN.{length, take}
 use lib.Seq.{take-all}
 use borrow.Author.Needs.{needs}
-use Rattle.codec.specs.Codec.{decode}
+use Rattle.codec.specs.Codec.{current, decode}
 use Rattle.codec.proofs.Codec.{decode-none}
 use Rattle.sets.specs.Sets.{member}
 use Rattle.sets.proofs.Tests.{not-t, not-f}
@@ -40,14 +40,14 @@ returns c =
     let αs = labelsOf a.plan a.level (a.nodes .now) in
     let f = a.frame .now in
     let nodes = labels-length a.plan a.level (a.nodes .now) in
-    let values : decode (take (made .if1 .length - 0) f) ≡ counted a.list a.q αs (decode f) =
+    let values : decode current (take (made .if1 .length - 0) f) ≡ counted a.list a.q αs (decode current f) =
     ⊎-elim
-    (λ w. ap decode (ap (λ k. take (k - 0) f) (w .4) ∙ take-all (length f - 0) f (omega arith))
-    ∙ sym (counted-all a.list a.q αs (decode f) (omega (arith, w .0 .taken, size .value-count .ensures)) (ap (member a.q) (sym (w .1 .ensures)) ∙ sym (w .2 .ensures) ∙ not-t _ (w .3 .taken))))
-    (λ w. ap (λ k. decode (take (k - 0) f)) (w .1) ∙ decode-none
+    (λ w. ap (decode current) (ap (λ k. take (k - 0) f) (w .4) ∙ take-all (length f - 0) f (omega arith))
+    ∙ sym (counted-all a.list a.q αs (decode current f) (omega (arith, w .0 .taken, size .value-count .ensures)) (ap (member a.q) (sym (w .1 .ensures)) ∙ sym (w .2 .ensures) ∙ not-t _ (w .3 .taken))))
+    (λ w. ap (λ k. decode current (take (k - 0) f)) (w .1) ∙ decode-none current
     ∙ sym (⊎-elim
-    (λ x. counted-listed a.list a.q αs (decode f) (ap (member a.q) (sym (x .1 .ensures)) ∙ sym (x .2 .ensures) ∙ not-f _ (x .3 .left)))
-    (λ x. counted-misfit a.list a.q αs (decode f) (λ e. x .left (size .value-count .ensures ∙ e ∙ nodes)))
+    (λ x. counted-listed a.list a.q αs (decode current f) (ap (member a.q) (sym (x .1 .ensures)) ∙ sym (x .2 .ensures) ∙ not-f _ (x .3 .left)))
+    (λ x. counted-misfit a.list a.q αs (decode current f) (λ e. x .left (size .value-count .ensures ∙ e ∙ nodes)))
     (w .0 .came)))
     (made .if1 .came) in
     at-store-at .store-at .ensures ∙ ap (λ vs. fill a.plan a.q αs vs (a.cells .now)) values

@@ -2,7 +2,7 @@
 -- Assumes nothing.
 use mathlib.Core.Path.{refl, sym, _∙_}
 use borrow.Author.Needs.{needs}
-use Rattle.codec.specs.Codec.{decode}
+use Rattle.codec.specs.Codec.{current, decode}
 use Rattle.refusals.specs.Outcome.{refusal, verdict}
 use Rattle.protocol.specs.Nodes.{sent, due}
 use Rattle.frames.proofs.Due.{due-own}
@@ -18,7 +18,7 @@ returns c =
     let known = c .before .before in
     let e = known .before .before in
     let a = e .args in
-    takes-none a.plan a.q a.list a.marks (due a.plan a.q a.board a.round) (sent a.plan a.q a.board a.round) (decode (a.frame .now)) (a.cells .now)
+    takes-none a.plan a.q a.list a.marks (due a.plan a.q a.board a.round) (sent a.plan a.q a.board a.round) (decode current (a.frame .now)) (a.cells .now)
     (due-own (e .pre .standing) a.q (e .pre .sender) (c .if1 .taken))
 
 carried-nodes-requires : tie.Need-carried-nodes-requires
@@ -36,7 +36,7 @@ returns-2 c =
     let known = other .before .before in
     let e = known .before .before in
     let a = e .args in
-    later-none (e .pre .standing) (e .pre .later) a.q (e .pre .sender) (other .if1 .left) a.list a.marks (decode (a.frame .now)) (a.cells .now) (listed .carried-nodes .result) (listed .carried-nodes .ensures .counted) (c .if2 .taken)
+    later-none (e .pre .standing) (e .pre .later) a.q (e .pre .sender) (other .if1 .left) a.list a.marks (decode current (a.frame .now)) (a.cells .now) (listed .carried-nodes .result) (listed .carried-nodes .ensures .counted) (c .if2 .taken)
 
 returns-3 : tie.Need-returns-3
 unfolding verdict refusal
@@ -47,7 +47,7 @@ returns-3 c =
     let known = other .before .before in
     let e = known .before .before in
     let a = e .args in
-    later-again (e .pre .standing) (e .pre .later) a.q (e .pre .sender) (other .if1 .left) a.list a.marks (decode (a.frame .now)) (a.cells .now) (listed .carried-nodes .result) (listed .carried-nodes .ensures .counted) (some .if2 .left) (sym (c .before .member .ensures) ∙ c .if3 .taken)
+    later-again (e .pre .standing) (e .pre .later) a.q (e .pre .sender) (other .if1 .left) a.list a.marks (decode current (a.frame .now)) (a.cells .now) (listed .carried-nodes .result) (listed .carried-nodes .ensures .counted) (some .if2 .left) (sym (c .before .member .ensures) ∙ c .if3 .taken)
 
 part-store-frame-end : tie.Need-part-store-frame-end
 part-store-frame-end c =
@@ -88,7 +88,7 @@ returns-4 c =
     let e = known .before .before in
     let a = e .args in
     let l = listed .carried-nodes .ensures in
-    later-new (e .pre .standing) (e .pre .later) a.q (e .pre .sender) (other .if1 .left) a.list a.marks (decode (a.frame .now)) (a.cells .now) (listed .carried-nodes .result) (l .counted)
+    later-new (e .pre .standing) (e .pre .later) a.q (e .pre .sender) (other .if1 .left) a.list a.marks (decode current (a.frame .now)) (a.cells .now) (listed .carried-nodes .result) (l .counted)
     (some .if2 .left) (sym (new .before .member .ensures) ∙ new .if3 .left) _ _ (front-labels (e .pre .standing) (e .pre .later) a.q l) (stored .store-frame .ensures)
 
 pub take-later-spec : {M : Type 1} → statement M

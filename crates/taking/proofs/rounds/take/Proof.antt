@@ -3,7 +3,7 @@
 use mathlib.Core.Logic.{_≢_}
 use native.Mathlib.Omega.{arith}
 use borrow.Author.Needs.{needs}
-use Rattle.codec.specs.Codec.{decode}
+use Rattle.codec.specs.Codec.{current, decode}
 use Rattle.refusals.specs.Outcome.{refusal, verdict}
 use Rattle.protocol.specs.Nodes.{sent, due}
 use Rattle.frames.proofs.Due.{due-none}
@@ -17,7 +17,7 @@ returns : tie.Need-returns
 unfolding verdict refusal
 returns c =
     let a = c .before .before .before .args in
-    takes-none a.plan a.q a.list a.marks (due a.plan a.q a.board a.round) (sent a.plan a.q a.board a.round) (decode (a.frame .now)) (a.cells .now)
+    takes-none a.plan a.q a.list a.marks (due a.plan a.q a.board a.round) (sent a.plan a.q a.board a.round) (decode current (a.frame .now)) (a.cells .now)
     (due-none a.plan a.q a.board a.round (c .if1 .taken))
 
 returns-2 : tie.Need-returns-2
@@ -27,7 +27,7 @@ returns-2 c =
     let below = first .before in
     let e = below .before .before .before in
     let a = e .args in
-    takes-word (e .pre .standing) (first .if2 .taken) a.q (omega arith) a.list a.marks (decode (a.frame .now)) (a.cells .now) _ _ (heard .take-word .ensures)
+    takes-word (e .pre .standing) (first .if2 .taken) a.q (omega arith) a.list a.marks (decode current (a.frame .now)) (a.cells .now) _ _ (heard .take-word .ensures)
 
 take-later-requires : tie.Need-take-later-requires
 take-later-requires c κs =
