@@ -4,13 +4,14 @@
 use Prim.Native.Nat.{ℕ}
 use mathlib.Core.Path.{_≡_, refl, _∙_}
 use mathlib.Core.List.{List, [], _∷_, _++_}
-use lib.Dec.{eqb, ltb}
+use lib.Dec.{eqb}
 use Rattle.codec.specs.Codec.{decode}
 use Rattle.sets.proofs.Tests.{cases}
-use Rattle.schedule.specs.Schedule.{rounds}
-use Rattle.protocol.specs.Rounds.{Board, receive, nextRound, convert, close}
-use Rattle.protocol.specs.Calls.{isTaken, judgeOpen, judgeBeginning, beginning, judgeReceiving, taking, receiving, closing}
+use Rattle.protocol.specs.Rounds.{Board}
+use Rattle.protocol.specs.Calls.{receiving}
 use Rattle.protocol.specs.Session.{Setting, begun}
+use Rattle.protocol.proofs.Taken.{taking-width, closing-width}
+use Rattle.synchronous.proofs.Synchronous.{begun-width}
 use Rattle.synchronous.proofs.Reached.{Reached, reached-taking, reached-closing}
 use Rattle.agreement.specs.Lists.{Call, receives, sends, closes, decides, leaves, caller, World, afterOne, after, state}
 
@@ -40,27 +41,12 @@ pub reached-after : (calls : List Call) (w : World) (i : ℕ) → Reached (w i) 
 reached-after = after-keeps Reached reached-leaves
 
 -- A board keeps its width.
-pub taking-width : (b : Board) (q : ℕ) (vs : List ℕ) → taking b q vs .board .width ≡ b .width
-unfolding taking receive
-taking-width b q vs = cases (isTaken (judgeReceiving b q)) (λ e. rw e) (λ e. rw e)
-
-pub closing-width : (b : Board) → closing b .board .width ≡ b .width
-unfolding closing close nextRound convert
-closing-width b =
-    cases (isTaken (judgeOpen b))
-    (λ e. rw e (cases (ltb (b .rec .round .0) (rounds (b .rec .plan) .0)) (λ l. rw l) (λ l. rw l)))
-    (λ e. rw e)
-
 pub leaves-width : (c : Call) (b : Board) → leaves c b .width ≡ b .width
 unfolding leaves receiving
 leaves-width (receives j q f) b = taking-width b q (decode (b .width) f)
 leaves-width (sends j out) b = refl
 leaves-width (closes j) b = closing-width b
 leaves-width (decides j) b = refl
-
-pub begun-width : (s : Setting) (i : ℕ) → begun s i .width ≡ s .width
-unfolding begun beginning
-begun-width s i = cases (isTaken (judgeBeginning (s .plan) i (s .buffer i))) (λ e. rw e) (λ e. rw e)
 
 pub state-width : (s : Setting) (calls : List Call) (i : ℕ) → state s calls i .width ≡ s .width
 unfolding state

@@ -8,7 +8,8 @@ use native.Mathlib.Omega.{arith}
 use lib.ListN.{length, take}
 use Rattle.codec.specs.Codec.{current}
 use Rattle.protocol.specs.Limits.{frameRoom}
-use Rattle.protocol.specs.Rounds.{Board}
+use Rattle.protocol.specs.declared.records.Record.{Record}
+use Rattle.protocol.specs.Rounds.{boardWith, Board}
 use Rattle.protocol.specs.Calls.{receiving}
 use Rattle.protocol.specs.Session.{handIn}
 use Rattle.sheet.specs.Playing.{decoded}
@@ -37,9 +38,11 @@ module _ (v : Option (List ℕ)) (buffer : List ℕ) (room : length buffer ≡ f
   pub read-fits : (k : ℕ) → found ≡ Values k → k ≤ frameRoom current
   read-fits k e = let (vs, _, z) = read-frame-is v (frameRoom current) k (sym (values-are k e)) in omega (arith, z)
 
-  pub read-heard : (k q : ℕ) (b : Board) → found ≡ Values k → receiving b q (take (k - 0) last) .board ≡ handIn q (decoded current v) b
+  pub read-heard : (k q : ℕ) (r : Record) (cells : List ℕ) → found ≡ Values k
+      → receiving (boardWith r cells) q (take (k - 0) last) .board ≡ handIn q (decoded current v) (boardWith r cells)
   unfolding handIn decoded receiving
-  read-heard k q b e =
+  read-heard k q r cells e =
+      let b : Board = boardWith r cells in
       let taken = sym (values-are k e) in
       let (vs, x, _) = read-frame-is v (frameRoom current) k taken in
       let whole : take (k - 0) last ≡ take (frameRoom current) vs =

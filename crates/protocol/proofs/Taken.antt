@@ -16,7 +16,8 @@ use Rattle.refusals.specs.Outcome.{Outcome, taken, refused}
 use Rattle.refusals.proofs.Outcomes.{taken-first, both-taken, passed}
 use Rattle.plan.specs.declared.plan.Plan.{Plan}
 use Rattle.schedule.specs.declared.rounds.Round.{Round}
-use Rattle.protocol.specs.Rounds.{close, Board, receive}
+use Rattle.schedule.specs.Schedule.{rounds}
+use Rattle.protocol.specs.Rounds.{Board, receive, nextRound, convert, close}
 use Rattle.protocol.specs.Calls.{judgeOpen, isTaken, wireOf, judgeSending, sending, taking, judgeReceiving, closing}
 use Rattle.protocol.specs.Nodes.{sent, due}
 use Rattle.protocol.proofs.Judgement.{open-facts, Open, taken-is}
@@ -88,3 +89,15 @@ closing-open b e = both-taken (judgeOpen b) _ e .0
 pub open-closing : (b : Board) → judgeOpen b .number ≡ 0 → closing b .answer .number ≡ 0
 unfolding closing
 open-closing b e = ap (λ o. o .number) (taken-first (judgeOpen b) _ e)
+
+-- A board keeps its width.
+pub taking-width : (b : Board) (q : ℕ) (vs : List ℕ) → taking b q vs .board .width ≡ b .width
+unfolding taking receive
+taking-width b q vs = cases (isTaken (judgeReceiving b q)) (λ e. rw e) (λ e. rw e)
+
+pub closing-width : (b : Board) → closing b .board .width ≡ b .width
+unfolding closing close nextRound convert
+closing-width b =
+    cases (isTaken (judgeOpen b))
+    (λ e. rw e (cases (ltb (b .rec .round .0) (rounds (b .rec .plan) .0)) (λ l. rw l) (λ l. rw l)))
+    (λ e. rw e)

@@ -18,8 +18,9 @@ use Rattle.plan.specs.declared.plan.Plan.{Plan}
 use Rattle.schedule.specs.declared.rounds.Round.{Round}
 use Rattle.refusals.specs.Outcome.{Outcome, taken, refused}
 use Rattle.refusals.proofs.Outcomes.{taken-first, refused-first}
+use Rattle.protocol.specs.declared.records.Record.{Record}
 use Rattle.protocol.specs.Nodes.{read, carried, sent, due, frame}
-use Rattle.protocol.specs.Rounds.{Board}
+use Rattle.protocol.specs.Rounds.{boardWith, Board}
 use Rattle.protocol.specs.Calls.{isTaken, judgeOpen, frameOf, wireOf, judgeSending, sending}
 use Rattle.protocol.proofs.Nodes.{sent-same}
 use Rattle.tree.specs.Labels.{Label}
@@ -151,7 +152,10 @@ module _ {p : Plan} {holders : List ℕ} {i : ℕ} {k : Round} (s : Standing p h
       }
 
 -- What writing leaves.
-module _ (b : Board) (out : List ℕ) where
+module _ (r : Record) (cells out : List ℕ) where
+  abbrev b : Board
+  b = boardWith r cells
+
   judged-closed : judgeOpen b .number ≢ 0 → judgeSending b out ≡ judgeOpen b
   unfolding judgeSending
   judged-closed ne = refused-first (judgeOpen b) _ ne
@@ -163,11 +167,11 @@ module _ (b : Board) (out : List ℕ) where
       rw (j, sym e, ne-eqb (o .number) 0 ne) refl
 
   judged-open : judgeOpen b .number ≡ 0 → (o : Outcome) (after : List ℕ)
-      → Writes (b .rec .plan) (b .rec .board) (b .rec .round) (b .cells) out o after → judgeSending b out ≡ o
+      → Writes (r .plan) (r .board) (r .round) cells out o after → judgeSending b out ≡ o
   unfolding judgeSending frameOf wireOf
   judged-open e o after w = taken-first (judgeOpen b) _ e ∙ sym (w .answer)
 
   pub send-open : judgeOpen b .number ≡ 0 → (o : Outcome) (after : List ℕ)
-      → Writes (b .rec .plan) (b .rec .board) (b .rec .round) (b .cells) out o after → record { answer = o; out = after } ≡ sending b out
+      → Writes (r .plan) (r .board) (r .round) cells out o after → record { answer = o; out = after } ≡ sending b out
   unfolding sending frameOf wireOf
   send-open e o after w = ap (λ xs. record { answer = o; out = xs }) (w .out) ∙ rw (judged-open e o after w) refl

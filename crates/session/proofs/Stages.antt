@@ -1,7 +1,7 @@
 -- The boards on the stage are those of the session, after every step.
 -- Assumes nothing.
 use Prim.Native.Nat.{ℕ, zero, suc, _*_, _≤_, _<_}
-use mathlib.Core.Path.{_≡_, refl, sym, ap, ap₂, subst, _∙_}
+use mathlib.Core.Path.{_≡_, refl, sym, ap, ap₂, subst, subst₂, _∙_}
 use mathlib.Core.Logic.{_≢_, _⊎_, inl, inr, ⊎-elim}
 use mathlib.Core.Bool.{true, false, cond}
 use mathlib.Core.List.{List, [], _∷_}
@@ -22,13 +22,13 @@ use Rattle.tree.specs.Places.{cellCount}
 use Rattle.sets.specs.Search.{any}
 use Rattle.protocol.specs.Limits.{cellsNeeded, frameRoom}
 use Rattle.protocol.specs.Nodes.{due}
-use Rattle.protocol.specs.Rounds.{boardWith, Board}
+use Rattle.protocol.specs.Rounds.{boardOf, boardWith, Board}
 use Rattle.protocol.specs.Calls.{isTaken, voidRecord, judgeOpen, judgeSending, dealing, taking, receiving, sending, frameOf, wireOf}
 use Rattle.protocol.specs.Session.{Adversary, Setting, boardAt, begun, hears, handIn, at, takeAll, keeper, Sound}
 use Rattle.sheet.specs.declared.head.Head.{Head}
 use Rattle.sheet.specs.Sheet.{Frame}
 use Rattle.sheet.specs.Playing.{findFrame, decoded, sheetAdversary, part, replacePart, setting, finalCells, finalBoards}
-use Rattle.synchronous.proofs.Synchronous.{at-start, at-next, told, keeper-facts}
+use Rattle.synchronous.proofs.Synchronous.{at-start, at-next, at-width, told, keeper-facts}
 use Rattle.synchronous.proofs.PartHeard.{MidStep, part-heard, cells-kept}
 use Rattle.protocol.proofs.Judgement.{Open, open-taken}
 use Rattle.protocol.proofs.Few.{sends, unsent}
@@ -78,19 +78,27 @@ module _ (h : Head) (good : GoodHead h) (cells₀ : List ℕ) (room : cellsNeede
   unfolding keeper keeps setting
   keeps-kept i l = rw (lt-ltb i n l) refl
 
+  -- A board of the code's width, with the cells of its part.
+  pub record Fit (b : Board) : Type 0 where
+    pub width : b .width ≡ current
+    pub size : length (b .cells) ≡ c
+
+  fit-same : (b d : Board) → b ≡ d → Fit d → Fit b
+  fit-same b d e = subst Fit (sym e)
+
   -- The stage holds these boards.
   pub record Holds (w : ℕ → Board) (st : Stage) : Type 0 where
     pub recs : (i : ℕ) → keeper s i ≡ true → getD (st .recs) i noRecord ≡ w i .rec
     pub seven : length (st .recs) ≡ 7
     pub cells : st .cells ≡ laid (keeper s) c (λ i. w i .cells) n cells₀
-    pub sizes : (i : ℕ) → keeper s i ≡ true → length (w i .cells) ≡ c
+    pub fits : (i : ℕ) → keeper s i ≡ true → Fit (w i)
 
   pub holds-same : (w w′ : ℕ → Board) (st : Stage) → ((i : ℕ) → keeper s i ≡ true → w i ≡ w′ i) → Holds w st → Holds w′ st
   holds-same w w′ st e x = record {
     recs = λ i k. x .recs i k ∙ ap (λ (b : Board). b .rec) (e i k);
     seven = x .seven;
     cells = x .cells ∙ laid-same (keeper s) c (λ i. w i .cells) (λ i. w′ i .cells) n cells₀ (λ i _ k. ap (λ (b : Board). b .cells) (e i k));
-    sizes = λ i k. ap (λ (b : Board). length (b .cells)) (sym (e i k)) ∙ x .sizes i k;
+    fits = λ i k. subst Fit (e i k) (x .fits i k);
   }
 
   -- A board on the stage.
@@ -98,17 +106,17 @@ module _ (h : Head) (good : GoodHead h) (cells₀ : List ℕ) (room : cellsNeede
   unfolding boardOn part
   look w st x i k =
       let e : take c (drop (i * c) (st .cells)) ≡ w i .cells =
-      ap (λ y. take c (drop (i * c) y)) (x .cells) ∙ laid-part (keeper s) c (λ j. w j .cells) (x .sizes) i n cells₀ (kept-below i k) k enough in
-      ap₂ (λ r y. boardWith r y) (x .recs i k) e
+      ap (λ y. take c (drop (i * c) y)) (x .cells) ∙ laid-part (keeper s) c (λ j. w j .cells) (λ j kj. x .fits j kj .size) i n cells₀ (kept-below i k) k enough in
+      ap₂ (λ r y. boardWith r y) (x .recs i k) e ∙ ap (λ v. boardOf v (w i .rec) (w i .cells)) (sym (x .fits i k .width))
 
   abbrev updated : (ℕ → Board) → ℕ → Board → ℕ → Board
   updated w i b j = cond (eqb j i) b (w j)
 
   -- One board is put in its place.
-  put : (w : ℕ → Board) (st : Stage) → Holds w st → (i : ℕ) (b : Board) → keeper s i ≡ true → length (b .cells) ≡ c
+  put : (w : ℕ → Board) (st : Stage) → Holds w st → (i : ℕ) (b : Board) → keeper s i ≡ true → Fit b
       → Holds (updated w i b) (putBoard n i b st)
   unfolding putBoard
-  put w st x i b k size = record {
+  put w st x i b k fit = record {
     recs = λ j kj.
         cases (eqb j i)
         (λ e. let same = eqb-true j i e in
@@ -119,9 +127,9 @@ module _ (h : Head) (good : GoodHead h) (cells₀ : List ℕ) (room : cellsNeede
     cells =
         let w′ : ℕ → List ℕ = λ j. cond (eqb j i) (b .cells) (w j .cells) in
         placed (x .cells)
-        ∙ laid-replace (keeper s) c (λ j. w j .cells) (x .sizes) i n (b .cells) cells₀ (kept-below i k) k size enough
+        ∙ laid-replace (keeper s) c (λ j. w j .cells) (λ j kj. x .fits j kj .size) i n (b .cells) cells₀ (kept-below i k) k (fit .size) enough
         ∙ laid-same (keeper s) c w′ (λ j. updated w i b j .cells) n cells₀ (λ j _ _. cases (eqb j i) (λ e. rw e refl) (λ e. rw e refl));
-    sizes = λ j kj. cases (eqb j i) (λ e. rw e size) (λ e. rw e (x .sizes j kj));
+    fits = λ j kj. cases (eqb j i) (λ e. rw e fit) (λ e. rw e (x .fits j kj));
   }
     where
       placed : st .cells ≡ laid (keeper s) c (λ j. w j .cells) n cells₀
@@ -147,10 +155,10 @@ module _ (h : Head) (good : GoodHead h) (cells₀ : List ℕ) (room : cellsNeede
     unfolding onStage
     left k t = rw t refl
 
-    acts-upto : ((i : ℕ) → keeper s i ≡ true → length (next i .cells) ≡ c) → (k : ℕ) → k ≤ n → Holds (partly k) (staged k)
-    acts-upto size zero l = unfold onStage in holds-same w (partly zero) st (λ i _. rw (le-ltb i 0 (omega arith)) refl) x
-    acts-upto size (suc k) l =
-        let before = acts-upto size k (omega arith) in
+    acts-upto : ((i : ℕ) → keeper s i ≡ true → Fit (next i)) → (k : ℕ) → k ≤ n → Holds (partly k) (staged k)
+    acts-upto fit zero l = unfold onStage in holds-same w (partly zero) st (λ i _. rw (le-ltb i 0 (omega arith)) refl) x
+    acts-upto fit (suc k) l =
+        let before = acts-upto fit k (omega arith) in
         let here : partly k k ≡ w k = rw (le-ltb k k (omega arith)) refl in
         cases (keeper s k)
         (λ e. let b = f k (boardOn n (staged k) k) in
@@ -163,7 +171,7 @@ module _ (h : Head) (good : GoodHead h) (cells₀ : List ℕ) (room : cellsNeede
         cases (ltb i k)
         (λ z. let less = ltb-true i k z in rw (y, z, lt-ltb i (suc k) (omega arith)) refl)
         (λ z. let more = ltb-false i k z in rw (y, z, le-ltb i (suc k) (omega arith)) refl)))
-        (put (partly k) (staged k) before k b e (ap (λ (y : Board). length (y .cells)) b-is ∙ size k e))))
+        (put (partly k) (staged k) before k b e (fit-same b (next k) b-is (fit k e)))))
         (λ e. subst (Holds (partly (suc k))) (sym (left k (sym (keeps-kept k (omega arith)) ∙ e)))
         (holds-same (partly k) (partly (suc k)) (staged k)
         (λ i ki. cases (ltb i k)
@@ -173,8 +181,8 @@ module _ (h : Head) (good : GoodHead h) (cells₀ : List ℕ) (room : cellsNeede
         rw (z, le-ltb i (suc k) (omega (arith, ne))) refl))
         before))
 
-    acts-all : ((i : ℕ) → keeper s i ≡ true → length (next i .cells) ≡ c) → Holds next (staged n)
-    acts-all size = holds-same (partly n) next (staged n) (λ i k. rw (lt-ltb i n (kept-below i k)) refl) (acts-upto size n (omega arith))
+    acts-all : ((i : ℕ) → keeper s i ≡ true → Fit (next i)) → Holds next (staged n)
+    acts-all fit = holds-same (partly n) next (staged n) (λ i k. rw (lt-ltb i n (kept-below i k)) refl) (acts-upto fit n (omega arith))
 
   -- The session of a sheet's frames.
   module _ (sound : Sound s) (fs : List Frame) where
@@ -191,9 +199,9 @@ module _ (h : Head) (good : GoodHead h) (cells₀ : List ℕ) (room : cellsNeede
     unfolding setting
     part-size i k = part-length n i cells₀ few (kept-below i k) room
 
-    at-size : (j i : ℕ) → keeper s i ≡ true → j ≤ steps (h .plan) → length (at s a j i .cells) ≡ c
+    at-fits : (j i : ℕ) → keeper s i ≡ true → j ≤ steps (h .plan) → Fit (at s a j i)
     unfolding setting
-    at-size j i k l = cells-kept s a sound j i k l ∙ part-size i k
+    at-fits j i k l = record { width = at-width s a j i (kept-below i k); size = cells-kept s a sound j i k l ∙ part-size i k }
 
     unbegun : ℕ → Board
     unbegun i = boardWith voidRecord (part n i cells₀)
@@ -204,7 +212,7 @@ module _ (h : Head) (good : GoodHead h) (cells₀ : List ℕ) (room : cellsNeede
       recs = λ i k. getD-replicate 7 i voidRecord noRecord (omega (arith, kept-below i k, few));
       seven = refl;
       cells = sym (laid-own (keeper s) c n cells₀);
-      sizes = λ i k. part-length n i cells₀ few (kept-below i k) room;
+      fits = λ i k. record { width = refl; size = part-length n i cells₀ few (kept-below i k) room };
     }
 
     begin-is : (i : ℕ) → keeper s i ≡ true → acted (h .plan) Begin i (unbegun i) ≡ at s a 0 i
@@ -215,7 +223,7 @@ module _ (h : Head) (good : GoodHead h) (cells₀ : List ℕ) (room : cellsNeede
     unfolding playSteps
     begun-holds =
         holds-same _ (at s a 0) (played 0) begin-is
-        (acts-all unbegun start start-holds (acted (h .plan) Begin) (λ i k. ap (λ (b : Board). length (b .cells)) (begin-is i k) ∙ at-size 0 i k (omega arith)))
+        (acts-all unbegun start start-holds (acted (h .plan) Begin) (λ i k. fit-same _ _ (begin-is i k) (at-fits 0 i k (omega arith))))
 
     rounds-few : rounds (h .plan) .0 ≤ 255
     unfolding setting
@@ -234,8 +242,9 @@ module _ (h : Head) (good : GoodHead h) (cells₀ : List ℕ) (room : cellsNeede
       unfolding setting
       mid q i l k = part-heard s a sound j i q k inside l
 
-      heard-size : (q i : ℕ) → q ≤ n → keeper s i ≡ true → length (heard q i .cells) ≡ c
-      heard-size q i l k = mid q i l k .size ∙ at-size j i k (omega arith)
+      heard-fits : (q i : ℕ) → q ≤ n → keeper s i ≡ true → Fit (heard q i)
+      unfolding setting
+      heard-fits q i l k = let m = mid q i l k in record { width = m .width; size = m .size ∙ at-fits j i k (omega arith) .size }
 
       faulty-heard : (q i : ℕ) (f : List ℕ) → q < n → keeper s i ≡ true → member q (h .faulty) ≡ true → hearFrom h rest q f i (heard q i) ≡ heard (suc q) i
       unfolding hearFrom takeAll hears setting sheetAdversary
@@ -261,20 +270,26 @@ module _ (h : Head) (good : GoodHead h) (cells₀ : List ℕ) (room : cellsNeede
           ap (λ x. handIn q x (heard q i)) (told-healthy h rest q f (heard q i) e)
           ∙ rw (e, eq-eqb q (h .plan .dealer) d) (ap (λ x. taking (heard q i) q x .board) (ap (decode current) f-is ∙ decode-encode current (h .word ∷ [])))
 
+      -- There is room for every frame of a board of the code's width.
+      roomy : (b : Board) → b .width ≡ current → frameRoom (b .width) ≤ length (replicate {A = ℕ} (frameRoom current) 0)
+      roomy b e = subst (λ v. frameRoom v ≤ length (replicate {A = ℕ} (frameRoom current) 0)) (sym e) (omega (arith, length-replicate {A = ℕ} (frameRoom current) 0))
+
       -- The frame of a board that keeps cells.
-      written : (q : ℕ) (b : Board) → Open b → q ≢ h .plan .dealer
-          → (frameFrom h q b ≡ wireOf b) ⊎ (sending b (replicate (frameRoom current) 0) .answer .number ≢ 0)
-      written q b o ne =
+      written : (q : ℕ) (b : Board) → b .width ≡ current → Open b → q ≢ h .plan .dealer
+          → (frameFrom h q b ≡ encode current (frameOf b)) ⊎ (sending b (replicate (frameRoom current) 0) .answer .number ≢ 0)
+      unfolding wireOf
+      written q b e o ne =
           let r = b .rec in
           let out = replicate {A = ℕ} (frameRoom current) 0 in
           cases (any (λ i. due (r .plan) (r .board) i (r .round)) (r .plan .n))
-          (λ x. let t = sends b out o (omega (arith, length-replicate {A = ℕ} (frameRoom current) 0)) x in
-          inl (sym (from-sender h q b (length (wireOf b)) out ne refl (sym t)) ∙ sending-gives b out (length (wireOf b)) t .frame))
+          (λ x. let t = sends b out o (roomy b e) x in
+          inl (sym (from-sender h q b (length (wireOf b)) out ne refl (sym t)) ∙ sending-gives b out (length (wireOf b)) t .frame
+          ∙ ap (λ v. encode v (frameOf b)) e))
           (λ x. inr (λ z. let y : ⊥ = omega (arith, sym (silent b out o x) ∙ z) in y))
 
       keeper-heard : (q i : ℕ) (f : List ℕ) → keeper s q ≡ true → keeper s i ≡ true → f ≡ frameFrom h q (heard q q)
           → hearFrom h rest q f i (heard q i) ≡ heard (suc q) i
-      unfolding hearFrom takeAll hears setting handIn at receiving wireOf
+      unfolding hearFrom takeAll hears setting handIn at
       keeper-heard q i f kq ki ef =
           let (below, e, d) = keeper-facts s a sound q kq in
           let mq = mid q q (omega arith) kq in
@@ -285,16 +300,16 @@ module _ (h : Head) (good : GoodHead h) (cells₀ : List ℕ) (room : cellsNeede
           (⊎-elim
           (λ x. ap (λ y. taking (heard q i) q y .board) (ap (decode current) (ef ∙ x) ∙ decode-encode current (frameOf (heard q q)) ∙ mq .sends))
           (λ x. nothing q i f kq ki x ∙ sym (ap (λ y. taking (heard q i) q y .board) (sym (decode-encode current g)) ∙ nothing q i (encode current g) kq ki x))
-          (written q (heard q q) (mq .opened) d))
+          (written q (heard q q) (mq .width) (mq .opened) d))
         where
           nothing : (q i : ℕ) (y : List ℕ) → keeper s q ≡ true → keeper s i ≡ true → sending (heard q q) (replicate (frameRoom current) 0) .answer .number ≢ 0
-              → receiving (heard q i) q y .board ≡ heard q i
+              → taking (heard q i) q (decode current y) .board ≡ heard q i
           nothing q i y kq ki x =
               let (below, _, _) = keeper-facts s a sound q kq in
               let mq = mid q q (omega arith) kq in
               let mi = mid q i (omega arith) ki in
-              subst (λ b. receiving (heard q i) b y .board ≡ heard q i) (mq .board)
-              (unsent (heard q q) (heard q i) (replicate (frameRoom current) 0) y (mq .opened) (omega (arith, length-replicate {A = ℕ} (frameRoom current) 0)) (mi .plan ∙ sym (mq .plan)) (mi .round ∙ sym (mq .round)) x)
+              subst₂ (λ b v. taking (heard q i) b (decode v y) .board ≡ heard q i) (mq .board) (mi .width)
+              (unfold receiving in unsent (heard q q) (heard q i) (replicate (frameRoom current) 0) y (mq .opened) (roomy (heard q q) (mq .width)) (mi .plan ∙ sym (mq .plan)) (mi .round ∙ sym (mq .round)) x)
 
       -- Every board has heard one board more.
       one-heard : (q i : ℕ) (st : Stage) → q < n → Holds (heard q) st → keeper s i ≡ true
@@ -313,7 +328,7 @@ module _ (h : Head) (good : GoodHead h) (cells₀ : List ℕ) (room : cellsNeede
       sender-holds q st l x =
           let f = hearFrom h rest q (frameFrom h q (boardOn n st q)) in
           holds-same _ (heard (suc q)) _ (λ i k. one-heard q i st l x k)
-          (acts-all (heard q) st x f (λ i k. ap (λ (b : Board). length (b .cells)) (one-heard q i st l x k) ∙ heard-size (suc q) i l k))
+          (acts-all (heard q) st x f (λ i k. fit-same _ _ (one-heard q i st l x k) (heard-fits (suc q) i l k)))
 
       heard-holds : (st : Stage) → Holds (at s a j) st → (q : ℕ) → q ≤ n → Holds (heard q) (hearSenders h rest q st)
       unfolding hearSenders takeAll
@@ -329,7 +344,7 @@ module _ (h : Head) (good : GoodHead h) (cells₀ : List ℕ) (room : cellsNeede
       step-holds x =
           holds-same _ (at s a (suc j)) (played (suc j)) closed-is
           (acts-all (heard n) (hearSenders h rest n (played j)) (heard-holds (played j) x n (omega arith)) (acted (h .plan) Close)
-          (λ i k. ap (λ (b : Board). length (b .cells)) (closed-is i k) ∙ at-size (suc j) i k inside))
+          (λ i k. fit-same _ _ (closed-is i k) (at-fits (suc j) i k inside)))
 
     played-holds : (j : ℕ) → j ≤ steps (h .plan) → Holds (at s a j) (played j)
     played-holds zero l = begun-holds

@@ -17,13 +17,14 @@ use Rattle.protocol.proofs.Judgement.{Good, Open, open-taken}
 use Rattle.synchronous.proofs.Reached.{fresh-good, close-good, close-plan, close-length}
 use Rattle.protocol.proofs.Taken.{closing-taken}
 use Rattle.synchronous.proofs.Hearing.{heard-open, heard-length, hear-shape}
-use Rattle.synchronous.proofs.Synchronous.{told, canon, standing, keeper-facts, begun-shape, at-start, at-next}
+use Rattle.synchronous.proofs.Synchronous.{told, canon, standing, keeper-facts, begun-shape, at-start, at-next, at-width}
 use Rattle.synchronous.proofs.AnyOrder.{part-frame}
 use Rattle.protocol.proofs.Turns.{begun-length}
 
 -- What board i is in step j when it has heard the boards below q.
 pub record MidStep (s : Setting) (a : Adversary) (j i : ℕ) (b : Board) : Type 0 where
   pub opened : Open b
+  pub width : b .width ≡ s .width
   pub plan : b .rec .plan ≡ s .plan
   pub board : b .rec .board ≡ i
   pub run : b .rec .run ≡ stepRun (s .plan) (suc j)
@@ -54,6 +55,7 @@ module _ (s : Setting) (a : Adversary) (sound : Sound s) where
       let is : here ≡ onto here r cells = ap (λ (x : Record). onto here x cells) (st .shape) in
       subst (MidStep s a j i) (sym (hear-shape (here .width) r g refl msg cells (st .room) (at s a j i) is q h))
       (record {
+        width = at-width s a j i (keeper-facts s a sound i k .0);
         opened = heard-open (here .width) r g refl msg cells (st .room) q h;
         plan = refl;
         board = refl;

@@ -5,7 +5,7 @@ use mathlib.Core.Path.{_≡_, refl, sym, _∙_, ap, ap₂, subst}
 use mathlib.Core.Logic.{_≢_}
 use mathlib.Core.Bool.{true, false, not, _&&_}
 use mathlib.Core.List.{List}
-use mathlib.Core.Option.{Option}
+use mathlib.Core.Option.{Option, some, none}
 use native.Mathlib.Omega.{arith}
 use native.Mathlib.Nat.{zero-mul}
 use lib.Dec.{eqb, ltb}
@@ -26,11 +26,11 @@ use Rattle.protocol.specs.declared.records.Slot.{Slot}
 use Rattle.protocol.specs.declared.records.Record.{Record}
 use Rattle.protocol.specs.Records.{standingAt, runEnded, withMarks}
 use Rattle.protocol.specs.Rounds.{boardOf, onto, Board, gather, nextRound, convert, close, cleared}
-use Rattle.protocol.specs.Calls.{judgeBoard, judgeBeginning, freshRecord, beginning, closing}
+use Rattle.protocol.specs.Calls.{isTaken, judgeBoard, judgeBeginning, freshRecord, beginning, closing}
 use Rattle.sets.proofs.Tabulated.{tabulate-at}
-use Rattle.protocol.specs.Session.{Adversary, Setting, Boards, nobody, boardAt, begun, hears, hearAll, session, at, takeAll, keeper, Sound}
+use Rattle.protocol.specs.Session.{Adversary, Setting, Boards, nobody, boardAt, begun, hears, handIn, hearAll, session, at, takeAll, keeper, Sound}
 use Rattle.protocol.proofs.Judgement.{Good, Open, open-taken, board-taken, cells-taken, taken-is}
-use Rattle.protocol.proofs.Taken.{closing-taken}
+use Rattle.protocol.proofs.Taken.{closing-taken, taking-width, closing-width}
 use Rattle.synchronous.proofs.Reached.{fresh-good, close-good, close-length}
 use Rattle.synchronous.proofs.Hearing.{marks, heardCells, heard-open, hear-shape}
 use Rattle.protocol.specs.Detection.{detectLevels}
@@ -55,6 +55,26 @@ module _ (s : Setting) (a : Adversary) where
       let f : ℕ → Board = λ i. closing (hearAll s a (session s a j) i j (s .plan .n)) .board in
       tabulate-at f (s .plan .n) i nobody l
       ∙ ap (λ b. closing b .board) (hear-all (session s a j) i j (s .plan .n))
+
+-- A board keeps the width that it was begun with.
+pub begun-width : (s : Setting) (i : ℕ) → begun s i .width ≡ s .width
+unfolding begun beginning
+begun-width s i = cases (isTaken (judgeBeginning (s .plan) i (s .buffer i))) (λ e. rw e) (λ e. rw e)
+
+hand-width : (q : ℕ) (told : Option (List ℕ)) (b : Board) → handIn q told b .width ≡ b .width
+unfolding handIn
+hand-width q none b = refl
+hand-width q (some vs) b = taking-width b q vs
+
+pub take-all-width : (msg : ℕ → Option (List ℕ)) (b : Board) (k : ℕ) → takeAll msg b k .width ≡ b .width
+unfolding takeAll
+take-all-width msg b zero = refl
+take-all-width msg b (suc q) = hand-width q (msg q) (takeAll msg b q) ∙ take-all-width msg b q
+
+pub at-width : (s : Setting) (a : Adversary) (j i : ℕ) → i < s .plan .n → at s a j i .width ≡ s .width
+at-width s a zero i l = ap (λ (b : Board). b .width) (at-start s a i l) ∙ begun-width s i
+at-width s a (suc j) i l =
+    ap (λ (b : Board). b .width) (at-next s a i j l) ∙ closing-width _ ∙ take-all-width (told s a i j) (at s a j i) (s .plan .n) ∙ at-width s a j i l
 
 -- Positions: the round after a round.
 module _ (p : Plan) where

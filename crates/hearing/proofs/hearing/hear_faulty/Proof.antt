@@ -3,7 +3,7 @@
 use mathlib.Core.Path.{ap, _∙_}
 use native.Mathlib.Omega.{arith}
 use borrow.Author.Needs.{needs}
-use Rattle.protocol.specs.Rounds.{boardWith, Board}
+use Rattle.protocol.specs.Rounds.{boardWith}
 use Rattle.protocol.specs.Calls.{Result}
 use Rattle.sheet.specs.Playing.{findFrame}
 use Rattle.finding.specs.Frames.{framesFrom}
@@ -50,9 +50,8 @@ returns-2 c =
     let a = start .args in
     let v = findFrame (a.r .run) (a.r .round) a.q (a.r .board) (framesFrom (a.text .now) a.from) in
     let d = read .read-frame in
-    let b : Board = boardWith a.r (a.cells .now) in
     ap (λ (x : Result). x .board) (heard .receive .ensures)
-    ∙ read-heard v (a.frame .now) (start .pre .whole) (d .result) _ (d .ensures) (found .k .given .0 .0) a.q b (found .k .given .1)
+    ∙ read-heard v (a.frame .now) (start .pre .whole) (d .result) _ (d .ensures) (found .k .given .0 .0) a.q a.r (a.cells .now) (found .k .given .1)
 
 pub hear-faulty-spec : {M : Type 1} → statement M
 hear-faulty-spec =

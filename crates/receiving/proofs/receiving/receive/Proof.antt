@@ -29,7 +29,7 @@ marked-requires c κs =
     let judged = told .before .before in
     let called = judged .before .before in
     let a = called .before .before .args in
-    taken-small (boardWith a.r (a.cells .now)) a.sender (a.frame .now)
+    taken-small a.r (a.cells .now) a.sender (a.frame .now)
     (ap (λ (o : Outcome). o .number) (sym (ap verdict (sym (told .enum-told .given .1)) ∙ judged .judge-open .ensures)))
     (verdict (stored .take .result)) _ (stored .take .ensures) (ap verdict (c .enum-told2 .given .1))
 
@@ -40,7 +40,7 @@ returns c =
     let called = judged .before .before in
     let a = called .before .before .args in
     let why = c .before .why .given in
-    receive-closed (boardWith a.r (a.cells .now)) a.sender (a.frame .now) (refusal (why .0 .0))
+    receive-closed a.r (a.cells .now) a.sender (a.frame .now) (refusal (why .0 .0))
     (ap verdict (sym (why .1)) ∙ judged .judge-open .ensures) (refusal-number (why .0 .0))
 
 returns-2 : tie.Need-returns-2
@@ -53,7 +53,7 @@ returns-2 c =
     let called = judged .before .before in
     let a = called .before .before .args in
     let why = c .before .answer .given in
-    receive-refused (boardWith a.r (a.cells .now)) a.sender (a.frame .now)
+    receive-refused a.r (a.cells .now) a.sender (a.frame .now)
     (ap (λ (o : Outcome). o .number) (sym (ap verdict (sym (told .enum-told .given .1)) ∙ judged .judge-open .ensures)))
     (verdict (stored .take .result)) _ (stored .take .ensures) (refusal (why .0 .0)) (ap verdict (why .1)) (refusal-number (why .0 .0))
 
@@ -67,7 +67,7 @@ returns-3 c =
     let judged = told .before .before in
     let called = judged .before .before in
     let a = called .before .before .args in
-    receive-taken (boardWith a.r (a.cells .now)) a.sender (a.frame .now)
+    receive-taken a.r (a.cells .now) a.sender (a.frame .now)
     (ap (λ (o : Outcome). o .number) (sym (ap verdict (sym (told .enum-told .given .1)) ∙ judged .judge-open .ensures)))
     (verdict (stored .take .result)) _ (stored .take .ensures) (ap verdict (new .enum-told2 .given .1)) (c .marked .result) (c .marked .ensures)
 

@@ -25,7 +25,7 @@ returns c =
     let judged = c .before .before .before in
     let a = judged .before .before .before .args in
     let why = c .before .why .given in
-    send-closed (boardWith a.r (a.cells .now)) (a.out .now) (refusal (why .0 .0))
+    send-closed a.r (a.cells .now) (a.out .now) (refusal (why .0 .0))
     (ap verdict (sym (why .1)) ∙ judged .judge-open .ensures) (refusal-number (why .0 .0))
 
 returns-2 : tie.Need-returns-2
@@ -35,7 +35,7 @@ returns-2 c =
     let told = written .before .before in
     let judged = told .before .before in
     let a = judged .before .before .before .args in
-    send-open (boardWith a.r (a.cells .now)) (a.out .now)
+    send-open a.r (a.cells .now) (a.out .now)
     (ap (λ (o : Outcome). o .number) (sym (ap verdict (sym (told .enum-told .given .1)) ∙ judged .judge-open .ensures))) _ _ (written .write .ensures)
 
 pub send-spec : {M : Type 1} → statement M
