@@ -10,8 +10,8 @@ use lib.Dec.{eqb}
 use Rattle.sets.specs.Sets.{member}
 use Rattle.plan.specs.declared.plan.Plan.{Plan}
 use Rattle.protocol.specs.Rounds.{Board}
-use Rattle.protocol.specs.Calls.{Result, frameOf, closing}
-use Rattle.protocol.specs.Session.{Adversary, Setting, hears, handIn, takeAll, at}
+use Rattle.protocol.specs.Calls.{Result, taking, frameOf, closing}
+use Rattle.protocol.specs.Session.{Adversary, Setting, begun, hears, handIn, takeAll, at}
 use Rattle.synchronous.proofs.Synchronous.{told, at-start, at-next}
 use Rattle.agreement.specs.Lists.{closes, leaves}
 use Rattle.agreement.proofs.Called.{taking-width}
@@ -26,18 +26,36 @@ unfolding handIn wideResult
 hand-wide q none b n = refl
 hand-wide q (some vs) b n = ap (λ (x : Result). x .board) (taking-wide b q vs (n .span))
 
-hand-narrow : (q : ℕ) (o : Option (List ℕ)) (b : Board) → Narrow b → Narrow (handIn q o b)
-unfolding handIn
-hand-narrow q none b n = n
-hand-narrow q (some vs) b n = record {
+-- What handing in and closing keep holds all along the session.
+module _ (P : Board → Type 0)
+    (takes : (b : Board) (q : ℕ) (vs : List ℕ) → P b → P (taking b q vs .board)) (closes : (b : Board) → P b → P (closing b .board)) where
+  hand-keeps : (q : ℕ) (o : Option (List ℕ)) (b : Board) → P b → P (handIn q o b)
+  unfolding handIn
+  hand-keeps q none b h = h
+  hand-keeps q (some vs) b h = takes b q vs h
+
+  all-keeps : (msg : ℕ → Option (List ℕ)) (b : Board) (k : ℕ) → P b → P (takeAll msg b k)
+  unfolding takeAll
+  all-keeps msg b zero h = h
+  all-keeps msg b (suc k) h = hand-keeps k (msg k) (takeAll msg b k) (all-keeps msg b k h)
+
+  pub at-keeps : (s : Setting) (a : Adversary) → ((i : ℕ) → P (begun s i)) → (j i : ℕ) → i < s .plan .n → P (at s a j i)
+  at-keeps s a h zero i l = subst P (sym (at-start s a i l)) (h i)
+  at-keeps s a h (suc j) i l =
+      subst P (sym (at-next s a i j l)) (closes _ (all-keeps (told s a i j) (at s a j i) (s .plan .n) (at-keeps s a h j i l)))
+
+pub taking-narrow : (b : Board) (q : ℕ) (vs : List ℕ) → Narrow b → Narrow (taking b q vs .board)
+taking-narrow b q vs n = record {
   width = taking-width b q vs ∙ n .width;
   span = subst (λ (p : Plan). p .span ≤ 255) (sym (taking-plan b q vs)) (n .span);
 }
 
+pub closing-narrow : (b : Board) → Narrow b → Narrow (closing b .board)
+unfolding leaves
+closing-narrow b n = leaves-narrow (closes 0) b n
+
 all-narrow : (msg : ℕ → Option (List ℕ)) (b : Board) (k : ℕ) → Narrow b → Narrow (takeAll msg b k)
-unfolding takeAll
-all-narrow msg b zero n = n
-all-narrow msg b (suc k) n = hand-narrow k (msg k) (takeAll msg b k) (all-narrow msg b k n)
+all-narrow = all-keeps Narrow taking-narrow closing-narrow
 
 all-wide : (msg msg′ : ℕ → Option (List ℕ)) (b : Board) (k : ℕ) → Narrow b → ((q : ℕ) → q < k → msg′ q ≡ msg q)
     → takeAll msg′ (wideBoard b) k ≡ wideBoard (takeAll msg b k)
@@ -47,14 +65,9 @@ all-wide msg msg′ b (suc k) n same =
     ap₂ (handIn k) (same k (omega arith)) (all-wide msg msg′ b k n (λ q l. same q (omega arith)))
     ∙ hand-wide k (msg k) (takeAll msg b k) (all-narrow msg b k n)
 
-closing-narrow : (b : Board) → Narrow b → Narrow (closing b .board)
-unfolding leaves
-closing-narrow b n = leaves-narrow (closes 0) b n
-
 module _ (s : Setting) (n : NarrowSetting s) (a : Adversary) where
   narrow : (j i : ℕ) → i < s .plan .n → Narrow (at s a j i)
-  narrow zero i l = subst Narrow (sym (at-start s a i l)) (begun-narrow s n i)
-  narrow (suc j) i l = subst Narrow (sym (at-next s a i j l)) (closing-narrow _ (all-narrow (told s a i j) (at s a j i) (s .plan .n) (narrow j i l)))
+  narrow = at-keeps Narrow taking-narrow closing-narrow s a (begun-narrow s n)
 
   -- A board and the same board in two bytes send the same values.
   told-wide : (j i q : ℕ) → q < s .plan .n → at (wideSetting s) a j q ≡ wideBoard (at s a j q) → told (wideSetting s) a i j q ≡ told s a i j q

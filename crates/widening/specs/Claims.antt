@@ -47,7 +47,7 @@ pub record SameCalls (b : Board) : Type 0 where
 abbrev pub CallsSame : Type 0
 CallsSame = (b : Board) → Narrow b → SameCalls b
 
--- Beginning a board, and the dealer's frame: "refused alike, else .. 00 before it".
+-- Beginning a board, on any plan; and the dealer's frame, with 00 before its value.
 abbrev pub BeginningSame : Type 0
 BeginningSame = (p : Plan) (i : ℕ) (cells : List ℕ) → beginning two p i (map wide cells) ≡ wideResult (beginning one p i cells)
 
