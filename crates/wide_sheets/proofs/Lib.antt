@@ -1,0 +1,5 @@
+pub mod Splitting
+pub mod Readings
+pub mod Prints
+pub mod Plays
+pub mod SevenWide

@@ -1,0 +1,3 @@
+pub mod WideText
+pub mod WideCase
+pub mod Claims

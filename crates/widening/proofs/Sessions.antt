@@ -1,0 +1,92 @@
+-- The synchronous session in one-byte values and the same in two bytes, whatever faulty boards send.
+-- Assumes nothing.
+use Prim.Native.Nat.{ℕ, zero, suc, _≤_, _<_}
+use mathlib.Core.Path.{_≡_, refl, sym, _∙_, ap, ap₂, subst}
+use mathlib.Core.Bool.{cond}
+use mathlib.Core.List.{List, [], _∷_}
+use mathlib.Core.Option.{Option, some, none}
+use native.Mathlib.Omega.{arith}
+use lib.Dec.{eqb}
+use Rattle.sets.specs.Sets.{member}
+use Rattle.plan.specs.declared.plan.Plan.{Plan}
+use Rattle.protocol.specs.Rounds.{Board}
+use Rattle.protocol.specs.Calls.{Result, taking, frameOf, closing}
+use Rattle.protocol.specs.Session.{Adversary, Setting, begun, hears, handIn, takeAll, at}
+use Rattle.synchronous.proofs.Synchronous.{told, at-start, at-next}
+use Rattle.agreement.specs.Lists.{closes, leaves}
+use Rattle.agreement.proofs.Called.{taking-width}
+use Rattle.widening.specs.Widening.{wideBoard, wideSetting, wideResult}
+use Rattle.widening.specs.Claims.{Narrow, NarrowSetting, SessionSame}
+use Rattle.widening.proofs.Calls.{taking-wide, closing-wide, frame-wide}
+use Rattle.widening.proofs.Lists.{taking-plan, leaves-narrow, begun-wide, begun-narrow}
+
+-- Hearing.
+hand-wide : (q : ℕ) (o : Option (List ℕ)) (b : Board) → Narrow b → handIn q o (wideBoard b) ≡ wideBoard (handIn q o b)
+unfolding handIn wideResult
+hand-wide q none b n = refl
+hand-wide q (some vs) b n = ap (λ (x : Result). x .board) (taking-wide b q vs (n .span))
+
+-- What handing in and closing keep holds all along the session.
+module _ (P : Board → Type 0)
+    (takes : (b : Board) (q : ℕ) (vs : List ℕ) → P b → P (taking b q vs .board)) (closes : (b : Board) → P b → P (closing b .board)) where
+  hand-keeps : (q : ℕ) (o : Option (List ℕ)) (b : Board) → P b → P (handIn q o b)
+  unfolding handIn
+  hand-keeps q none b h = h
+  hand-keeps q (some vs) b h = takes b q vs h
+
+  all-keeps : (msg : ℕ → Option (List ℕ)) (b : Board) (k : ℕ) → P b → P (takeAll msg b k)
+  unfolding takeAll
+  all-keeps msg b zero h = h
+  all-keeps msg b (suc k) h = hand-keeps k (msg k) (takeAll msg b k) (all-keeps msg b k h)
+
+  pub at-keeps : (s : Setting) (a : Adversary) → ((i : ℕ) → P (begun s i)) → (j i : ℕ) → i < s .plan .n → P (at s a j i)
+  at-keeps s a h zero i l = subst P (sym (at-start s a i l)) (h i)
+  at-keeps s a h (suc j) i l =
+      subst P (sym (at-next s a i j l)) (closes _ (all-keeps (told s a i j) (at s a j i) (s .plan .n) (at-keeps s a h j i l)))
+
+pub taking-narrow : (b : Board) (q : ℕ) (vs : List ℕ) → Narrow b → Narrow (taking b q vs .board)
+taking-narrow b q vs n = record {
+  width = taking-width b q vs ∙ n .width;
+  span = subst (λ (p : Plan). p .span ≤ 255) (sym (taking-plan b q vs)) (n .span);
+}
+
+pub closing-narrow : (b : Board) → Narrow b → Narrow (closing b .board)
+unfolding leaves
+closing-narrow b n = leaves-narrow (closes 0) b n
+
+all-narrow : (msg : ℕ → Option (List ℕ)) (b : Board) (k : ℕ) → Narrow b → Narrow (takeAll msg b k)
+all-narrow = all-keeps Narrow taking-narrow closing-narrow
+
+all-wide : (msg msg′ : ℕ → Option (List ℕ)) (b : Board) (k : ℕ) → Narrow b → ((q : ℕ) → q < k → msg′ q ≡ msg q)
+    → takeAll msg′ (wideBoard b) k ≡ wideBoard (takeAll msg b k)
+unfolding takeAll
+all-wide msg msg′ b zero n same = refl
+all-wide msg msg′ b (suc k) n same =
+    ap₂ (handIn k) (same k (omega arith)) (all-wide msg msg′ b k n (λ q l. same q (omega arith)))
+    ∙ hand-wide k (msg k) (takeAll msg b k) (all-narrow msg b k n)
+
+module _ (s : Setting) (n : NarrowSetting s) (a : Adversary) where
+  narrow : (j i : ℕ) → i < s .plan .n → Narrow (at s a j i)
+  narrow = at-keeps Narrow taking-narrow closing-narrow s a (begun-narrow s n)
+
+  -- A board and the same board in two bytes send the same values.
+  told-wide : (j i q : ℕ) → q < s .plan .n → at (wideSetting s) a j q ≡ wideBoard (at s a j q) → told (wideSetting s) a i j q ≡ told s a i j q
+  unfolding hears at wideSetting
+  told-wide j i q l ih =
+      ap (λ f. cond (member q (s .faulty)) (a i j q) (cond (eqb q (s .plan .dealer)) (some (s .word ∷ [])) (some f)))
+      (ap frameOf ih ∙ frame-wide (at s a j q) (narrow j q l .span))
+
+  at-wide : (j i : ℕ) → i < s .plan .n → at (wideSetting s) a j i ≡ wideBoard (at s a j i)
+  unfolding wideSetting wideResult
+  at-wide zero i l = at-start (wideSetting s) a i l ∙ begun-wide s (n .width) i ∙ ap wideBoard (sym (at-start s a i l))
+  at-wide (suc j) i l =
+      let heard = takeAll (told s a i j) (at s a j i) (s .plan .n) in
+      at-next (wideSetting s) a i j l
+      ∙ ap (λ b. closing b .board)
+      (ap (λ b. takeAll (told (wideSetting s) a i j) b (s .plan .n)) (at-wide j i l)
+      ∙ all-wide (told s a i j) (told (wideSetting s) a i j) (at s a j i) (s .plan .n) (narrow j i l) (λ q lq. told-wide j i q lq (at-wide j q lq)))
+      ∙ ap (λ (x : Result). x .board) (closing-wide heard (all-narrow (told s a i j) (at s a j i) (s .plan .n) (narrow j i l)))
+      ∙ ap wideBoard (sym (at-next s a i j l))
+
+pub session-same : SessionSame
+session-same s n a j i l = at-wide s n a j i l
