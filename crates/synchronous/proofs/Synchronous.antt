@@ -26,7 +26,7 @@ use Rattle.protocol.specs.declared.records.Slot.{Slot}
 use Rattle.protocol.specs.declared.records.Record.{Record}
 use Rattle.protocol.specs.Records.{standingAt, runEnded, withMarks}
 use Rattle.protocol.specs.Rounds.{boardOf, onto, Board, gather, nextRound, convert, close, cleared}
-use Rattle.protocol.specs.Calls.{isTaken, judgeBoard, judgeBeginning, freshRecord, beginning, closing}
+use Rattle.protocol.specs.Calls.{isTaken, judgeBoard, judgeBeginning, freshRecord, beginning, taking, closing}
 use Rattle.sets.proofs.Tabulated.{tabulate-at}
 use Rattle.protocol.specs.Session.{Adversary, Setting, Boards, nobody, boardAt, begun, hears, handIn, hearAll, session, at, takeAll, keeper, Sound}
 use Rattle.protocol.proofs.Judgement.{Good, Open, open-taken, board-taken, cells-taken, taken-is}
@@ -56,25 +56,32 @@ module _ (s : Setting) (a : Adversary) where
       tabulate-at f (s .plan .n) i nobody l
       ∙ ap (λ b. closing b .board) (hear-all (session s a j) i j (s .plan .n))
 
+-- What handing in and closing keep holds all along the session.
+module _ (P : Board → Type 0)
+    (takes : (b : Board) (q : ℕ) (vs : List ℕ) → P b → P (taking b q vs .board)) (closes : (b : Board) → P b → P (closing b .board)) where
+  hand-keeps : (q : ℕ) (o : Option (List ℕ)) (b : Board) → P b → P (handIn q o b)
+  unfolding handIn
+  hand-keeps q none b h = h
+  hand-keeps q (some vs) b h = takes b q vs h
+
+  pub all-keeps : (msg : ℕ → Option (List ℕ)) (b : Board) (k : ℕ) → P b → P (takeAll msg b k)
+  unfolding takeAll
+  all-keeps msg b zero h = h
+  all-keeps msg b (suc k) h = hand-keeps k (msg k) (takeAll msg b k) (all-keeps msg b k h)
+
+  pub at-keeps : (s : Setting) (a : Adversary) → ((i : ℕ) → P (begun s i)) → (j i : ℕ) → i < s .plan .n → P (at s a j i)
+  at-keeps s a h zero i l = subst P (sym (at-start s a i l)) (h i)
+  at-keeps s a h (suc j) i l =
+      subst P (sym (at-next s a i j l)) (closes _ (all-keeps (told s a i j) (at s a j i) (s .plan .n) (at-keeps s a h j i l)))
+
 -- A board keeps the width that it was begun with.
 pub begun-width : (s : Setting) (i : ℕ) → begun s i .width ≡ s .width
 unfolding begun beginning
 begun-width s i = cases (isTaken (judgeBeginning (s .plan) i (s .buffer i))) (λ e. rw e) (λ e. rw e)
 
-hand-width : (q : ℕ) (told : Option (List ℕ)) (b : Board) → handIn q told b .width ≡ b .width
-unfolding handIn
-hand-width q none b = refl
-hand-width q (some vs) b = taking-width b q vs
-
-pub take-all-width : (msg : ℕ → Option (List ℕ)) (b : Board) (k : ℕ) → takeAll msg b k .width ≡ b .width
-unfolding takeAll
-take-all-width msg b zero = refl
-take-all-width msg b (suc q) = hand-width q (msg q) (takeAll msg b q) ∙ take-all-width msg b q
-
 pub at-width : (s : Setting) (a : Adversary) (j i : ℕ) → i < s .plan .n → at s a j i .width ≡ s .width
-at-width s a zero i l = ap (λ (b : Board). b .width) (at-start s a i l) ∙ begun-width s i
-at-width s a (suc j) i l =
-    ap (λ (b : Board). b .width) (at-next s a i j l) ∙ closing-width _ ∙ take-all-width (told s a i j) (at s a j i) (s .plan .n) ∙ at-width s a j i l
+at-width s a =
+    at-keeps (λ b. b .width ≡ s .width) (λ b q vs h. taking-width b q vs ∙ h) (λ b h. closing-width b ∙ h) s a (begun-width s)
 
 -- Positions: the round after a round.
 module _ (p : Plan) where

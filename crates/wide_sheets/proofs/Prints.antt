@@ -20,7 +20,8 @@ use Rattle.sheet.specs.Sheet.{lines}
 use Rattle.sheet.specs.Playing.{hexValue, printed}
 use Rattle.widening.specs.Claims.{Narrow, NarrowSetting}
 use Rattle.widening.proofs.Lists.{begun-narrow}
-use Rattle.widening.proofs.Sessions.{at-keeps, taking-narrow, closing-narrow}
+use Rattle.synchronous.proofs.Synchronous.{at-keeps}
+use Rattle.widening.proofs.Sessions.{taking-narrow, closing-narrow}
 use Rattle.wide_sheets.specs.WideText.{printedValue, wideDigits, wideLine, joined, widePrinted}
 use Rattle.wide_sheets.proofs.Splitting.{Plain, no-more, more, lines-line}
 

@@ -14,8 +14,9 @@ use Rattle.protocol.specs.Rounds.{Board, receive}
 use Rattle.protocol.specs.Calls.{Result, isTaken, judgeOpen, judgeBeginning, beginning, freshRecord, voidRecord, judgeReceiving, taking, receiving, closing}
 use Rattle.protocol.specs.Session.{Setting, begun}
 use Rattle.synchronous.proofs.Reached.{close-plan}
+use Rattle.synchronous.proofs.Synchronous.{begun-width}
 use Rattle.agreement.specs.Lists.{Call, receives, sends, closes, decides, caller, leaves, World, afterOne, after, state}
-use Rattle.agreement.proofs.Called.{one-keeps, after-keeps, leaves-width, begun-width}
+use Rattle.agreement.proofs.Called.{one-keeps, after-keeps, leaves-width}
 use Rattle.widening.specs.Widening.{wideBoard, wideSetting, wideResult, Wider, receives-wider, sends-wider, closes-wider, decides-wider, Widers, none-wider, more-wider}
 use Rattle.widening.specs.Claims.{Narrow, NarrowSetting, ListsSame}
 use Rattle.widening.proofs.Calls.{leaves-wide, calls-same, beginning-same}

@@ -11,10 +11,10 @@ use Rattle.sets.specs.Sets.{member}
 use Rattle.plan.specs.declared.plan.Plan.{Plan}
 use Rattle.protocol.specs.Rounds.{Board}
 use Rattle.protocol.specs.Calls.{Result, taking, frameOf, closing}
-use Rattle.protocol.specs.Session.{Adversary, Setting, begun, hears, handIn, takeAll, at}
-use Rattle.synchronous.proofs.Synchronous.{told, at-start, at-next}
+use Rattle.protocol.specs.Session.{Adversary, Setting, hears, handIn, takeAll, at}
+use Rattle.protocol.proofs.Taken.{taking-width}
+use Rattle.synchronous.proofs.Synchronous.{told, at-start, at-next, all-keeps, at-keeps}
 use Rattle.agreement.specs.Lists.{closes, leaves}
-use Rattle.agreement.proofs.Called.{taking-width}
 use Rattle.widening.specs.Widening.{wideBoard, wideSetting, wideResult}
 use Rattle.widening.specs.Claims.{Narrow, NarrowSetting, SessionSame}
 use Rattle.widening.proofs.Calls.{taking-wide, closing-wide, frame-wide}
@@ -25,24 +25,6 @@ hand-wide : (q : ℕ) (o : Option (List ℕ)) (b : Board) → Narrow b → handI
 unfolding handIn wideResult
 hand-wide q none b n = refl
 hand-wide q (some vs) b n = ap (λ (x : Result). x .board) (taking-wide b q vs (n .span))
-
--- What handing in and closing keep holds all along the session.
-module _ (P : Board → Type 0)
-    (takes : (b : Board) (q : ℕ) (vs : List ℕ) → P b → P (taking b q vs .board)) (closes : (b : Board) → P b → P (closing b .board)) where
-  hand-keeps : (q : ℕ) (o : Option (List ℕ)) (b : Board) → P b → P (handIn q o b)
-  unfolding handIn
-  hand-keeps q none b h = h
-  hand-keeps q (some vs) b h = takes b q vs h
-
-  all-keeps : (msg : ℕ → Option (List ℕ)) (b : Board) (k : ℕ) → P b → P (takeAll msg b k)
-  unfolding takeAll
-  all-keeps msg b zero h = h
-  all-keeps msg b (suc k) h = hand-keeps k (msg k) (takeAll msg b k) (all-keeps msg b k h)
-
-  pub at-keeps : (s : Setting) (a : Adversary) → ((i : ℕ) → P (begun s i)) → (j i : ℕ) → i < s .plan .n → P (at s a j i)
-  at-keeps s a h zero i l = subst P (sym (at-start s a i l)) (h i)
-  at-keeps s a h (suc j) i l =
-      subst P (sym (at-next s a i j l)) (closes _ (all-keeps (told s a i j) (at s a j i) (s .plan .n) (at-keeps s a h j i l)))
 
 pub taking-narrow : (b : Board) (q : ℕ) (vs : List ℕ) → Narrow b → Narrow (taking b q vs .board)
 taking-narrow b q vs n = record {
