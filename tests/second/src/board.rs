@@ -4,33 +4,34 @@ use crate::keeper::Keeper;
 use crate::mistake::Mistake;
 use crate::plan::{child, first_cover, has, set_of, Label, Plan, Tree};
 use crate::record::{Fields, Record};
-use crate::script::{Act, Step, CELLS, OUT};
+use crate::script::{out, Act, Step, CELLS};
+use crate::width::{Value, Width};
 use std::collections::HashMap;
 use std::rc::Rc;
 use std::sync::OnceLock;
 
-/// An answer: the number of the refusal, 0 if the call is taken, and the values beside it.
+/// An answer: the number of the refusal, 0 if the call is taken, and the bytes beside it.
 #[derive(Clone, Debug, PartialEq, Eq)]
 pub struct Said {
     pub number: u8,
-    pub values: Vec<u8>,
+    pub beside: Vec<u8>,
 }
 
 impl Said {
-    fn taken(values: &[u8]) -> Said {
-        let values = values.to_vec();
-        Said { number: 0, values }
+    fn taken(beside: &[u8]) -> Said {
+        let beside = beside.to_vec();
+        Said { number: 0, beside }
     }
 
     fn refused(number: u8) -> Said {
-        let values = vec![];
-        Said { number, values }
+        let beside = vec![];
+        Said { number, beside }
     }
 
-    /// The number, how many values there are, and three of them.
+    /// The number, how many bytes stand beside it, and three of them.
     fn bytes(&self) -> Vec<u8> {
-        let mut bytes = vec![self.number, self.values.len() as u8];
-        bytes.extend(&self.values);
+        let mut bytes = vec![self.number, self.beside.len() as u8];
+        bytes.extend(&self.beside);
         bytes.resize(5, 0);
         bytes
     }
@@ -95,24 +96,23 @@ pub fn cell_count(n: u8) -> usize {
     counts.get(n as usize).copied().unwrap_or(0)
 }
 
-/// A place with no value.
-const BLANK: u8 = 0xFF;
-
 /// All that calls get and leave.
 pub struct State {
     pub record: Record,
-    pub cells: Vec<u8>,
+    pub cells: Vec<Value>,
     pub out: Vec<u8>,
+    width: Width,
     mistake: Option<Mistake>,
     layout: Option<Rc<Layout>>,
 }
 
 impl State {
-    pub fn new(mistake: Option<Mistake>) -> State {
+    pub fn new(width: Width, mistake: Option<Mistake>) -> State {
         State {
             record: Record::VOID,
             cells: vec![0; CELLS],
-            out: vec![0; OUT],
+            out: vec![0; out(width)],
+            width,
             mistake,
             layout: None,
         }
@@ -135,8 +135,9 @@ impl State {
 
     /// What the program tells after a step.
     pub fn told(&self, said: &Said, step: &Step) -> Vec<u8> {
-        let cells = &self.cells[..step.shown];
-        [&said.bytes(), &self.record.bytes(), &self.out, cells].concat()
+        let cells = self.width.encode(&self.cells[..step.shown]);
+        let record = self.record.bytes(self.width);
+        [said.bytes(), record, self.out.clone(), cells].concat()
     }
 
     fn change(&mut self, change: &Act) -> Said {
@@ -156,16 +157,15 @@ impl State {
         Said::taken(&[])
     }
 
-    fn make_plan(&mut self, numbers: &[u8; 5], sets: &[u8]) -> Said {
+    fn make_plan(&mut self, numbers: &[Value; 5], sets: &[u8]) -> Said {
         let [n, dealer, span, default, depth] = *numbers;
-        let sets = sets.to_vec();
         let plan = Plan {
-            n,
-            sets,
-            dealer,
+            n: n as u8,
+            sets: sets.to_vec(),
+            dealer: dealer as u8,
             span,
             default,
-            depth,
+            depth: depth as u8,
         };
         let judged = judge(&plan);
         self.record.plan = match judged {
@@ -184,15 +184,23 @@ impl State {
         let cells = cell_count(plan.n);
         refuse(11, lent < cells)?;
         self.record = Record::begun(fields, board);
-        self.cells[..cells].fill(BLANK);
+        self.clear(cells);
         Ok(Said::taken(&[]))
     }
 
-    fn deal(&self, value: u8) -> Result<Said, Said> {
+    /// So many cells have no value.
+    fn clear(&mut self, cells: usize) {
+        let blank = self.width.blank_with(self.mistake);
+        self.cells[..cells].fill(blank);
+    }
+
+    /// The dealer's frame stands beside the number.
+    fn deal(&self, value: Value) -> Result<Said, Said> {
         let plan = self.record.plan.plan();
         judge(&plan)?;
         refuse(18, value >= plan.span)?;
-        Ok(Said::taken(&[value]))
+        let frame = self.width.encode_with(&[value], self.mistake);
+        Ok(Said::taken(&frame))
     }
 
     /// 12, 11, 13.
@@ -225,7 +233,7 @@ impl State {
 
     /// The board with its list, and the cells of these labels.
     fn keeper<'a>(&self, layout: &Layout, labels: impl Iterator<Item = &'a Label>) -> Keeper {
-        let mut keeper = Keeper::new(self.record.board, self.mistake);
+        let mut keeper = Keeper::new(self.width, self.record.board, self.mistake);
         keeper.list = self.record.list;
         let cell = |label: &Label| (label.clone(), self.cells[layout.place(label)]);
         keeper.cells = labels.map(cell).collect();
@@ -280,7 +288,7 @@ impl State {
             self.record.round += 1;
         } else {
             keeper.convert(tree, run);
-            self.cells[..layout.cells()].fill(BLANK);
+            self.clear(layout.cells());
             self.end_run(tree, keeper.cells[&vec![tree.plan.dealer]]);
         }
         self.keep(&layout, &keeper);
@@ -296,7 +304,7 @@ impl State {
     }
 
     /// Round 2 of the next run, or the decision.
-    fn end_run(&mut self, tree: &Tree, root: u8) {
+    fn end_run(&mut self, tree: &Tree, root: Value) {
         if (self.record.run as usize) < tree.plan.runs() {
             self.record.run += 1;
             self.record.round = 2;
@@ -309,7 +317,7 @@ impl State {
     fn decide(&self) -> Result<Said, Said> {
         refuse(12, self.record.bad(self.mistake))?;
         refuse(19, !self.record.decided)?;
-        Ok(Said::taken(&[self.record.decision]))
+        Ok(Said::taken(&self.width.encode(&[self.record.decision])))
     }
 }
 
@@ -329,7 +337,7 @@ fn judge(plan: &Plan) -> Result<(), Said> {
     let mut said = Said::refused(number);
     if number == 5 {
         let (i, j, k) = first_cover(plan.n, &plan.sets).expect("sets that cover");
-        said.values = vec![i as u8, j as u8, k as u8];
+        said.beside = vec![i as u8, j as u8, k as u8];
     }
     Err(said)
 }

@@ -9,6 +9,7 @@ use crate::plan::{all, set_of, Plan, Set};
 use crate::prng::Prng;
 use crate::search::{sheet as sheet_of, Lies};
 use crate::sheet::Sheet;
+use crate::width::{Value, Width};
 
 /// Who plays which part.
 struct Cast {
@@ -17,7 +18,7 @@ struct Cast {
     chain: Vec<u8>,
     side: Vec<u8>,
     pillar: u8,
-    default: u8,
+    default: Value,
 }
 
 impl Cast {
@@ -52,7 +53,7 @@ impl Cast {
     }
 
     /// Lies to the side and to the pillar at the node of some chain places.
-    fn tell(&self, lies: &mut Lies, run: u8, node: &[usize], side: u8, pillar: u8) {
+    fn tell(&self, lies: &mut Lies, run: u8, node: &[usize], side: Value, pillar: Value) {
         let label: Vec<u8> = node.iter().map(|i| self.chain[*i]).collect();
         for board in &self.side {
             lies.insert((run, label.clone(), *board), side ^ self.default);
@@ -62,18 +63,18 @@ impl Cast {
 }
 
 /// A sheet of this kind, at times spoilt a little.
-pub fn sheet(rng: &mut Prng) -> Sheet {
+pub fn sheet(width: Width, rng: &mut Prng) -> Sheet {
     match rng.below(5) {
-        0 | 1 => deep(rng),
-        2 => single(6, 4, 4, rng),
-        3 => single(7, 4, 4 + rng.below(2), rng),
-        _ => single(7, 5, 5, rng),
+        0 | 1 => deep(width, rng),
+        2 => single(width, 6, 4, 4, rng),
+        3 => single(width, 7, 4, 4 + rng.below(2), rng),
+        _ => single(width, 7, 5, 5, rng),
     }
 }
 
 /// Unequal after run 1: the sides' values alternate down the chain.
 /// At times the chain comes in a later run, when the roots are equal already.
-pub fn single(n: u8, depth: u8, faulty: usize, rng: &mut Prng) -> Sheet {
+pub fn single(width: Width, n: u8, depth: u8, faulty: usize, rng: &mut Prng) -> Sheet {
     let cast = Cast::new(n, faulty, rng);
     let sets = vec![cast.faulty(), set_of(cast.side.iter().copied())];
     let plan = cast.plan(depth, sets);
@@ -90,11 +91,11 @@ pub fn single(n: u8, depth: u8, faulty: usize, rng: &mut Prng) -> Sheet {
             &mut lies,
             run,
             &node[..=i],
-            (i % 2) as u8,
-            ((i + 1) % 2) as u8,
+            (i % 2) as Value,
+            ((i + 1) % 2) as Value,
         );
     }
-    let (v, w) = (((last - 1) % 2) as u8, (last % 2) as u8);
+    let (v, w) = (((last - 1) % 2) as Value, (last % 2) as Value);
     let swap = rng.chance(1, 2);
     cast.tell(
         &mut lies,
@@ -103,17 +104,18 @@ pub fn single(n: u8, depth: u8, faulty: usize, rng: &mut Prng) -> Sheet {
         if swap { w } else { v },
         if swap { v } else { w },
     );
-    finish(&cast, plan, lies, run, rng)
+    let (plan, last) = spoilt(&cast, plan, &mut lies, run, rng);
+    sheet_of(width, &plan, cast.faulty(), &lies, cast.pillar, last)
 }
 
 /// Unequal after runs 1 and 2: n = 7, b = 4, two boards must support a value of the side.
-pub fn deep(rng: &mut Prng) -> Sheet {
+pub fn deep(width: Width, rng: &mut Prng) -> Sheet {
     let mut cast = Cast::new(7, 5, rng);
     if cast.chain[2] > cast.chain[3] {
         cast.chain.swap(2, 3);
     }
     let mut lies = Lies::new();
-    let first: [(&[usize], u8, u8); 7] = [
+    let first: [(&[usize], Value, Value); 7] = [
         (&[0], 0, 1),
         (&[0, 1], 1, 0),
         (&[0, 2], 0, 0),
@@ -122,7 +124,7 @@ pub fn deep(rng: &mut Prng) -> Sheet {
         (&[0, 1, 2, 3], 0, 1),
         (&[0, 1, 2, 4], 0, 1),
     ];
-    let second: [(&[usize], u8, u8); 4] = [
+    let second: [(&[usize], Value, Value); 4] = [
         (&[0, 3], 1, 0),
         (&[0, 3, 4], 1, 1),
         (&[0, 3, 2], 0, 1),
@@ -137,11 +139,12 @@ pub fn deep(rng: &mut Prng) -> Sheet {
     let around = |x: &u8| set_of([cast.side[0], cast.chain[0], *x]);
     let mut sets: Vec<Set> = cast.chain[1..].iter().map(around).collect();
     sets.push(cast.faulty());
-    finish(&cast, cast.plan(4, sets), lies, 2, rng)
+    let (plan, last) = spoilt(&cast, cast.plan(4, sets), &mut lies, 2, rng);
+    sheet_of(width, &plan, cast.faulty(), &lies, cast.pillar, last)
 }
 
-/// Shuffles the sets, at times spoils lies or sets, and plays.
-fn finish(cast: &Cast, mut plan: Plan, mut lies: Lies, last: u8, rng: &mut Prng) -> Sheet {
+/// Shuffles the sets, and at times spoils lies or sets; the plan and the last run to tell lies in.
+fn spoilt(cast: &Cast, mut plan: Plan, lies: &mut Lies, last: u8, rng: &mut Prng) -> (Plan, u8) {
     for i in 0..plan.sets.len() {
         plan.sets.swap(i, rng.below(i + 1));
     }
@@ -149,10 +152,10 @@ fn finish(cast: &Cast, mut plan: Plan, mut lies: Lies, last: u8, rng: &mut Prng)
         spoil_sets(cast, &mut plan, rng);
     }
     for _ in 0..rng.pick(&[0, 0, 1, 2, 4, 30]) {
-        spoil_lie(cast, &plan, &mut lies, last, rng);
+        spoil_lie(cast, &plan, lies, last, rng);
     }
     let last = if rng.chance(1, 2) { last } else { 9 };
-    sheet_of(&plan, cast.faulty(), &lies, cast.pillar, last)
+    (plan, last)
 }
 
 /// Adds a set around the side if the list is still accepted.
@@ -176,5 +179,5 @@ fn spoil_lie(cast: &Cast, plan: &Plan, lies: &mut Lies, last: u8, rng: &mut Prng
     }
     let healthy: Vec<u8> = (0..cast.n).filter(|b| !cast.chain.contains(b)).collect();
     let run = 1 + rng.below(last as usize + 1) as u8;
-    lies.insert((run, label, rng.pick(&healthy)), rng.below(2) as u8);
+    lies.insert((run, label, rng.pick(&healthy)), rng.below(2) as Value);
 }

@@ -6,25 +6,24 @@ use crate::plan::{all, Plan};
 use crate::prng::Prng;
 use crate::record::{Fields, Record, SLOTS};
 use crate::script::Act;
+use crate::width::{Value, Width};
 
 /// Fields of a plan with other values, by number.
-pub fn plan(fields: &Fields, rng: &mut Prng) -> Vec<(u8, u8)> {
+pub fn plan(width: Width, fields: &Fields, rng: &mut Prng) -> Vec<(u8, Value)> {
     let Fields { n, span, count, .. } = *fields;
     let used = count.clamp(1, SLOTS as u8);
     let slot = SLOTS as u8 + rng.below(used as usize) as u8;
+    let used = (5, used.into());
     match rng.below(9) {
         0 => vec![(0, rng.pick(&[0, 8, 9, 255]))],
         1 => vec![(5, rng.pick(&[33, 34, 64, 255]))],
-        2 => vec![
-            (5, used),
-            (slot, 0x80 >> rng.below(8 - n.clamp(1, 7) as usize)),
-        ],
-        3 => vec![(5, used), (slot, all(n.clamp(1, 7)))],
-        4 => vec![(1, n.saturating_add(rng.pick(&[0, 0, 1, 200])))],
+        2 => vec![used, (slot, 0x80 >> rng.below(8 - n.clamp(1, 7) as usize))],
+        3 => vec![used, (slot, all(n.clamp(1, 7)).into())],
+        4 => vec![(1, n.saturating_add(rng.pick(&[0, 0, 1, 200])).into())],
         5 => vec![(2, rng.pick(&[0, 1]))],
-        6 => vec![(3, span.saturating_add(rng.pick(&[0, 0, 1, 255])))],
-        7 => vec![(4, rng.pick(&BAD_DEPTHS))],
-        _ => vec![(4, rng.pick(&[4, 7, 0])), (5, rng.below(33) as u8)],
+        6 => vec![(3, width.raise(span, rng.pick(&[0, 0, 1, width.blank()])))],
+        7 => vec![(4, rng.pick(&BAD_DEPTHS).into())],
+        _ => vec![(4, rng.pick(&[4, 7, 0])), (5, rng.below(33) as Value)],
     }
 }
 
@@ -78,15 +77,15 @@ fn bad_entry(plan: &Plan, rng: &mut Prng) -> Entry {
 }
 
 /// Changes of a good record, most of which lead to number 12.
-pub fn record(record: &Record, rng: &mut Prng) -> Vec<Act> {
+pub fn record(width: Width, record: &Record, rng: &mut Prng) -> Vec<Act> {
     let sets = record.plan.plan();
     let (n, runs, rounds) = (sets.n, sets.runs() as u8, sets.rounds() as u8);
     let more = rng.pick(&[0, 0, 1, 200]);
-    let field = |number: u8, value: u8| vec![Act::ChangeRecord(number, value)];
+    let field = |number: u8, value: u8| vec![Act::ChangeRecord(number, value.into())];
     let board = rng.below(n as usize) as u8;
     match rng.below(24) {
         0..=4 => {
-            let changes = plan(&record.plan, rng).into_iter();
+            let changes = plan(width, &record.plan, rng).into_iter();
             changes
                 .map(|(f, v)| Act::ChangeRecord(128 + f, v))
                 .collect()
@@ -106,7 +105,7 @@ pub fn record(record: &Record, rng: &mut Prng) -> Vec<Act> {
         10 => field(2, rounds + 1 + more),
         11 => field(3, record.marks | 0x80 >> rng.below(8 - n as usize)),
         12 => {
-            let decision = sets.span.saturating_add(more);
+            let decision = width.raise(sets.span, more.into());
             vec![Act::ChangeRecord(4, 1), Act::ChangeRecord(5, decision)]
         }
         13..=15 if n < 7 => {
@@ -118,7 +117,7 @@ pub fn record(record: &Record, rng: &mut Prng) -> Vec<Act> {
 }
 
 /// The changes that lead from one record back to another.
-pub fn mended(mut from: Record, mut to: Record) -> Vec<Act> {
+pub fn mended(from: &Record, to: &Record) -> Vec<Act> {
     let mut acts = vec![];
     for number in (0..6).chain(128..134).chain(160..192) {
         let value = to.get(number);

@@ -3,27 +3,36 @@
 use crate::entry::{Entry, List, Rule};
 use crate::mistake::Mistake;
 use crate::plan::{child, has, set_of, Label, Plan, Set, Tree};
-use std::collections::{BTreeMap, HashMap};
+use crate::width::{Value, Width};
+use std::collections::{BTreeMap, BTreeSet, HashMap};
 
 #[derive(Clone)]
 pub struct Keeper {
     pub board: u8,
     pub list: List,
-    pub cells: HashMap<Label, u8>,
+    pub cells: HashMap<Label, Value>,
     /// What the nodes resolved to when the last run ended.
     pub resolved: Resolved,
+    width: Width,
     mistake: Option<Mistake>,
 }
 
-pub type Resolved = HashMap<Label, Option<u8>>;
+pub type Resolved = HashMap<Label, Option<Value>>;
+
+/// The children of a node, each with its value if it has one.
+type Children = Vec<(u8, Option<Value>)>;
+
+/// Spans up to this are tried value by value.
+const MANY: Value = 255;
 
 impl Keeper {
-    pub fn new(board: u8, mistake: Option<Mistake>) -> Keeper {
+    pub fn new(width: Width, board: u8, mistake: Option<Mistake>) -> Keeper {
         Keeper {
             board,
             list: List::default(),
             cells: HashMap::new(),
             resolved: HashMap::new(),
+            width,
             mistake,
         }
     }
@@ -32,13 +41,14 @@ impl Keeper {
         self.mistake == Some(mistake)
     }
 
-    /// A byte taken as a value; the mistake puts 0 for the default here.
-    fn as_value(&self, tree: &Tree, byte: Option<u8>, mistake: Mistake) -> u8 {
-        tree.plan.value(byte, self.makes(mistake))
+    /// A number taken as a value; the mistake puts 0 for the default here.
+    fn as_value(&self, tree: &Tree, number: Option<Value>, mistake: Mistake) -> Value {
+        let zero = self.makes(mistake);
+        tree.plan.value_with(number, zero, self.mistake)
     }
 
     /// A cell read as a value.
-    pub fn value(&self, tree: &Tree, label: &[u8]) -> u8 {
+    pub fn value(&self, tree: &Tree, label: &[u8]) -> Value {
         let cell = self.cells[label];
         if self.makes(Mistake::RawRead) {
             cell
@@ -47,10 +57,11 @@ impl Keeper {
         }
     }
 
-    /// What this board sends in a round.
+    /// The bytes that this board sends in a round.
     pub fn frame(&self, tree: &Tree, round: usize) -> Vec<u8> {
         let nodes = tree.reported(round, self.board);
-        nodes.iter().map(|label| self.value(tree, label)).collect()
+        let values: Vec<Value> = nodes.iter().map(|label| self.value(tree, label)).collect();
+        self.width.encode_with(&values, self.mistake)
     }
 
     /// Stores one sender's frame, or its absence.
@@ -68,30 +79,35 @@ impl Keeper {
     }
 
     /// What is stored for a frame that does not count.
-    fn no_values(&self, tree: &Tree, wanted: usize, mistake: Mistake) -> Vec<u8> {
+    fn no_values(&self, tree: &Tree, wanted: usize, mistake: Mistake) -> Vec<Value> {
         vec![self.as_value(tree, None, mistake); wanted]
     }
 
     /// The values of a frame as they are stored.
-    fn accepted(&self, tree: &Tree, frame: &[u8], wanted: usize) -> Vec<u8> {
-        if !self.fits(frame.len(), wanted) {
+    fn accepted(&self, tree: &Tree, frame: &[u8], wanted: usize) -> Vec<Value> {
+        let mut values = self.width.decode_with(frame, self.mistake);
+        if !self.fits(values.len(), wanted) {
             return self.no_values(tree, wanted, Mistake::MisfitIsZero);
         }
+        if self.makes(Mistake::HighByteLost) {
+            values.iter_mut().for_each(|value| *value &= 0xFF);
+        }
         let raw = self.makes(Mistake::RawStored) || self.makes(Mistake::RawRead);
-        let stored = |place: usize| match frame.get(place) {
+        let stored = |place: usize| match values.get(place) {
             Some(value) if raw => *value,
             value => self.as_value(tree, value.copied(), Mistake::BeyondIsZero),
         };
         (0..wanted).map(stored).collect()
     }
 
-    /// Whether a frame's length is the one that is due.
-    fn fits(&self, length: usize, wanted: usize) -> bool {
+    /// Whether a frame has as many values as are due.
+    fn fits(&self, count: usize, wanted: usize) -> bool {
+        let bytes = self.width.bytes();
         match self.mistake {
-            Some(Mistake::OverlongCut) => length >= wanted,
-            Some(Mistake::ShortFilled) => length <= wanted,
-            Some(Mistake::LengthInAByte) => length % 256 == wanted,
-            _ => length == wanted,
+            Some(Mistake::OverlongCut) => count >= wanted,
+            Some(Mistake::ShortFilled) => count <= wanted,
+            Some(Mistake::LengthInAByte) => count * bytes % 256 == wanted * bytes,
+            _ => count == wanted,
         }
     }
 
@@ -99,7 +115,7 @@ impl Keeper {
     fn copy_own(&mut self, tree: &Tree, round: usize) {
         for label in tree.reported(round, self.board) {
             let value = if self.makes(Mistake::OwnChildSilent) {
-                tree.plan.value(None, false)
+                tree.plan.default
             } else {
                 self.value(tree, &label)
             };
@@ -131,7 +147,7 @@ impl Keeper {
             looked_at |= set_of([last]);
             let list = self.list_for(Mistake::GWithoutList, before);
             let values = self.child_cells(tree, label);
-            if self.looks_at(last) && !skipped && !explained(tree, &values, list) {
+            if self.looks_at(last) && !skipped && !self.explained(tree, &values, list) {
                 let listed = self.list.has(last);
                 let entry = self.entry(&tree.plan, run, round, Rule::G(label.len() as u8));
                 self.list.put(last, entry);
@@ -177,7 +193,7 @@ impl Keeper {
         }
     }
 
-    fn child_cells(&self, tree: &Tree, label: &[u8]) -> Vec<(u8, Option<u8>)> {
+    fn child_cells(&self, tree: &Tree, label: &[u8]) -> Children {
         let value = |q| Some(self.value(tree, &child(label, q)));
         tree.children(label).map(|q| (q, value(q))).collect()
     }
@@ -214,7 +230,7 @@ impl Keeper {
     fn resolve_all(&self, tree: &Tree) -> Resolved {
         let mut resolved = Resolved::new();
         for level in (1..=tree.plan.rounds()).rev() {
-            let mut by_last: BTreeMap<u8, Option<u8>> = BTreeMap::new();
+            let mut by_last: BTreeMap<u8, Option<Value>> = BTreeMap::new();
             for label in tree.level(level) {
                 let mut value = self.resolve(tree, label, &resolved);
                 if self.makes(Mistake::CachedValue) {
@@ -226,22 +242,23 @@ impl Keeper {
         resolved
     }
 
-    fn resolve(&self, tree: &Tree, label: &[u8], resolved: &Resolved) -> Option<u8> {
+    fn resolve(&self, tree: &Tree, label: &[u8], resolved: &Resolved) -> Option<Value> {
         if !tree.internal(label) {
             return Some(self.value(tree, label));
         }
         let values = child_values(tree, label, resolved);
-        let supported = |v: &u8| {
+        let supported = |v: &Value| {
             let same = values.iter().filter(|(_, value)| *value == Some(*v));
             !tree.plan.tolerated(set_of(same.map(|(q, _)| *q)))
         };
-        let mut fitting = (0..tree.plan.span).filter(supported);
+        let mut fitting = self.tried(tree, &values).filter(supported);
         let first = fitting.next();
         let unique = self.makes(Mistake::FirstValueWins) || fitting.next().is_none();
+        let marked = self.makes(Mistake::MarkFF) && first == Some(0xFF);
         let none = self
             .makes(Mistake::NoneIsDefault)
-            .then(|| tree.plan.value(None, false));
-        first.filter(|_| unique).or(none)
+            .then_some(tree.plan.default);
+        first.filter(|_| unique && !marked).or(none)
     }
 
     fn rule_c(&mut self, tree: &Tree, run: usize, resolved: &Resolved) {
@@ -259,7 +276,7 @@ impl Keeper {
                 let last = *label.last().unwrap();
                 let list = self.list_for(Mistake::CWithoutList, before);
                 let values = child_values(tree, label, resolved);
-                if self.looks_at(last) && !explained(tree, &values, list) {
+                if self.looks_at(last) && !self.explained(tree, &values, list) {
                     let rule = Rule::C(level as u8);
                     let entry = self.entry(&tree.plan, run, tree.plan.rounds(), rule);
                     self.list.put(last, entry);
@@ -267,18 +284,31 @@ impl Keeper {
             }
         }
     }
+
+    /// Whether some value leaves a tolerated set of children with another, joined with the list.
+    fn explained(&self, tree: &Tree, values: &Children, list: Set) -> bool {
+        self.tried(tree, values).any(|v| {
+            let other = values.iter().filter(|(_, value)| *value != Some(v));
+            tree.plan.tolerated(set_of(other.map(|(q, _)| *q)) | list)
+        })
+    }
+
+    /// The values that a rule tries, rising: all below m. Where these are many, those that children have and the least
+    /// that none has, which stands for all others.
+    fn tried(&self, tree: &Tree, values: &Children) -> impl Iterator<Item = Value> {
+        let span = tree.plan.span;
+        if span <= MANY {
+            return (0..span).chain(BTreeSet::new());
+        }
+        let mut tried: BTreeSet<Value> = values.iter().filter_map(|(_, value)| *value).collect();
+        tried.extend((0..span).find(|v| !tried.contains(v)));
+        tried.retain(|v| tree.plan.below(*v, self.mistake));
+        (0..0).chain(tried)
+    }
 }
 
-fn child_values(tree: &Tree, label: &[u8], resolved: &Resolved) -> Vec<(u8, Option<u8>)> {
+fn child_values(tree: &Tree, label: &[u8], resolved: &Resolved) -> Children {
     tree.children(label)
         .map(|q| (q, resolved[&child(label, q)]))
         .collect()
-}
-
-/// Whether some value leaves a tolerated set of children with another, joined with the list.
-fn explained(tree: &Tree, values: &[(u8, Option<u8>)], list: Set) -> bool {
-    (0..tree.plan.span).any(|v| {
-        let other = values.iter().filter(|(_, value)| *value != Some(v));
-        tree.plan.tolerated(set_of(other.map(|(q, _)| *q)) | list)
-    })
 }

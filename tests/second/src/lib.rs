@@ -23,11 +23,15 @@ pub mod session;
 pub mod sheet;
 pub mod shrink;
 pub mod tally;
+pub mod wide;
+pub mod widen;
+pub mod width;
 
 pub use line::Line;
 pub use mistake::Mistake;
 pub use session::Outcome;
 pub use sheet::{Refusal, Sheet};
+pub use width::{Value, Width, CURRENT};
 
 /// All that the bench prints for a sheet.
 pub fn bench(sheet: &[u8]) -> Vec<u8> {
@@ -41,7 +45,12 @@ pub fn bench_with(sheet: &[u8], mistake: Mistake) -> Vec<u8> {
 
 /// Reads a sheet and plays its session.
 pub fn play(sheet: &[u8], mistake: Option<Mistake>) -> Result<Outcome, Refusal> {
-    sheet::read_with(sheet, mistake).map(|s| session::play_sheet(&s, mistake))
+    play_at(CURRENT, sheet, mistake)
+}
+
+/// The same at a width.
+pub fn play_at(width: Width, sheet: &[u8], mistake: Option<Mistake>) -> Result<Outcome, Refusal> {
+    sheet::read_at(width, sheet, mistake).map(|s| session::play_sheet(&s, mistake))
 }
 
 /// The printed form of an outcome or a refusal.

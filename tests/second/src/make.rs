@@ -5,6 +5,7 @@ use crate::plan::{admit, all, has, set_of, Label, Plan, Set};
 use crate::prng::Prng;
 use crate::session::{play, Adversary, Keepers};
 use crate::sheet::{write, Sheet, Slot, LONGEST};
+use crate::width::{Value, Width, CURRENT};
 use std::collections::BTreeMap;
 
 /// The seed of made sheet number `place`, of a whole that has a seed too.
@@ -14,32 +15,38 @@ pub fn own_seed(seed: u64, place: u64) -> u64 {
 
 /// The sheet of a seed.
 pub fn sheet(seed: u64) -> Vec<u8> {
+    sheet_at(CURRENT, seed)
+}
+
+/// The same at a width.
+pub fn sheet_at(width: Width, seed: u64) -> Vec<u8> {
     let mut rng = Prng::new(seed);
     match rng.below(1000) {
-        0..=2 => oversized(&mut rng),
+        0..=2 => oversized(width, &mut rng),
         3..=5 => vec![],
         6..=9 => nonsense(&mut rng),
-        10..=79 => bad_head(&mut rng),
-        80..=279 => damaged(&mut rng),
-        280..=479 => chain::sheet(&mut rng).write(),
-        _ => good(&mut rng).write(),
+        10..=79 => bad_head(width, &mut rng),
+        80..=279 => damaged(width, &mut rng),
+        280..=479 => chain::sheet(width, &mut rng).write(),
+        _ => good(width, &mut rng).write(),
     }
 }
 
 /// A sheet that is accepted.
-pub fn good(rng: &mut Prng) -> Sheet {
-    let plan = plan(rng);
+pub fn good(width: Width, rng: &mut Prng) -> Sheet {
+    let plan = plan(width, rng);
     let faulty = faulty(&plan, rng);
-    lied_to(plan, faulty, rng)
+    lied_to(width, plan, faulty, rng)
 }
 
 /// A sheet with frames of the faulty boards for this plan.
-pub fn lied_to(plan: Plan, faulty: Set, rng: &mut Prng) -> Sheet {
-    let value = rng.below(plan.span as usize) as u8;
-    let mut liar = Liar::new(&plan, faulty, rng);
-    play(&plan, value, faulty, &mut liar, None);
+pub fn lied_to(width: Width, plan: Plan, faulty: Set, rng: &mut Prng) -> Sheet {
+    let value = rng.below(plan.span as usize) as Value;
+    let mut liar = Liar::new(width, &plan, faulty, rng);
+    play(width, &plan, value, faulty, &mut liar, None);
     let frames = liar.frames;
     Sheet {
+        width,
         plan,
         value,
         faulty,
@@ -50,22 +57,24 @@ pub fn lied_to(plan: Plan, faulty: Set, rng: &mut Prng) -> Sheet {
 // Plans
 
 /// An accepted plan.
-pub fn plan(rng: &mut Prng) -> Plan {
+pub fn plan(width: Width, rng: &mut Prng) -> Plan {
     let n = rng.pick(&[
         1, 2, 3, 3, 4, 4, 4, 5, 5, 5, 5, 6, 6, 6, 6, 6, 6, 7, 7, 7, 7,
     ]);
     let sets = sets(n, rng);
+    let largest = width.blank();
     let span = match rng.below(8) {
-        0 => 255,
-        1 => 2 + rng.below(254) as u8,
+        0 => largest,
+        1 => 2 + rng.below(largest as usize - 1) as Value,
         2 | 3 => 2,
+        4 if width == Width::Two => rng.pick(&[16, 255, 256, 257]),
         4 => 16,
-        _ => 2 + rng.below(4) as u8,
+        _ => 2 + rng.below(4) as Value,
     };
     let default = match rng.below(6) {
         0..=2 => 0,
         3 => span - 1,
-        _ => rng.below(span as usize) as u8,
+        _ => rng.below(span as usize) as Value,
     };
     let dealer = rng.below(n as usize) as u8;
     let depth = rng.pick(&[0, 4, 4, 4, 5, 6, 7]);
@@ -181,6 +190,7 @@ fn draw(sets: &[Set], rng: &mut Prng) -> Set {
 /// Makes the frames of the faulty boards as they are asked for, and keeps them.
 struct Liar<'a> {
     rng: &'a mut Prng,
+    width: Width,
     plan: Plan,
     faulty: Set,
     frames: BTreeMap<Slot, Vec<u8>>,
@@ -194,15 +204,16 @@ struct Liar<'a> {
     beyond: usize,
     /// Receivers that are lied to, and the two values most lies use.
     fooled: Set,
-    common: [u8; 2],
+    common: [Value; 2],
     /// From this run on all is the truth.
     until: u8,
 }
 
 impl<'a> Liar<'a> {
-    fn new(plan: &Plan, faulty: Set, rng: &'a mut Prng) -> Liar<'a> {
-        let common = [0, 1].map(|_| rng.below(plan.span as usize) as u8);
+    fn new(width: Width, plan: &Plan, faulty: Set, rng: &'a mut Prng) -> Liar<'a> {
+        let common = [0, 1].map(|_| likely(width, plan.span, rng));
         Liar {
+            width,
             plan: plan.clone(),
             faulty,
             frames: BTreeMap::new(),
@@ -218,20 +229,20 @@ impl<'a> Liar<'a> {
         }
     }
 
-    fn lie(&mut self) -> u8 {
-        let span = self.plan.span;
-        if self.rng.chance(self.beyond, 16) && span < 255 {
-            return span + self.rng.below(256 - span as usize) as u8;
+    fn lie(&mut self) -> Value {
+        let (span, width) = (self.plan.span, self.width);
+        if self.rng.chance(self.beyond, 16) && beyond(width, span) {
+            return not_below(width, span, self.rng);
         }
         if self.rng.chance(15, 16) {
             self.rng.pick(&self.common)
         } else {
-            self.rng.byte() % span
+            self.rng.value(width) % span
         }
     }
 
     /// One value of a frame: the truth, as a healthy board has it, or a lie.
-    fn value(&mut self, slot: Slot, label: &[u8], keepers: &Keepers) -> u8 {
+    fn value(&mut self, slot: Slot, label: &[u8], keepers: &Keepers) -> Value {
         let within = label.iter().all(|b| has(self.faulty, *b));
         let rate = if within { self.inside } else { self.outside };
         let fooled = has(self.fooled, slot.receiver) && slot.run <= self.until;
@@ -246,7 +257,7 @@ impl<'a> Liar<'a> {
         keepers[&witness].cells[label]
     }
 
-    /// Makes a frame too short or too long.
+    /// Makes a frame too short or too long, by any number of bytes.
     fn bend(&mut self, frame: &mut Vec<u8>) {
         match self.rng.below(16) {
             0..=7 => frame.truncate(self.rng.below(frame.len())),
@@ -260,12 +271,50 @@ impl<'a> Liar<'a> {
     }
 }
 
+/// Whether numbers of m or more are made: at one byte not for the largest span, which leaves one.
+fn beyond(width: Width, span: Value) -> bool {
+    width == Width::Two || span < width.blank()
+}
+
+/// A number of m or more; of two bytes at times m, the one after it or FFFF.
+fn not_below(width: Width, span: Value, rng: &mut Prng) -> Value {
+    let largest = width.blank();
+    let near = width == Width::Two && rng.chance(1, 2);
+    if near {
+        return rng.pick(&[span, width.raise(span, 1), largest]);
+    }
+    span + rng.below((largest - span) as usize + 1) as Value
+}
+
+/// A value for lies; of two bytes at times m - 1, or one that fills its low byte or comes after.
+fn likely(width: Width, span: Value, rng: &mut Prng) -> Value {
+    let near = width == Width::Two && rng.chance(1, 3);
+    if near {
+        return rng.pick(&[span - 1, 255, 256]).min(span - 1);
+    }
+    rng.below(span as usize) as Value
+}
+
+/// Any number; of two bytes at times one about m, FFFF, or one that a single byte has.
+pub fn any_number(width: Width, span: Value, rng: &mut Prng) -> Value {
+    match width {
+        Width::One => rng.byte().into(),
+        Width::Two => match rng.below(4) {
+            0 => rng.pick(&[span - 1, span, width.raise(span, 1), width.blank()]),
+            1 => rng.byte().into(),
+            _ => rng.value(width),
+        },
+    }
+}
+
 impl Adversary for Liar<'_> {
     fn frame(&mut self, slot: Slot, nodes: &[Label], keepers: &Keepers) -> Option<Vec<u8>> {
         if self.rng.chance(self.missing, 16) {
             return None;
         }
-        let mut frame: Vec<u8> = nodes.iter().map(|l| self.value(slot, l, keepers)).collect();
+        let values = nodes.iter().map(|l| self.value(slot, l, keepers));
+        let values: Vec<Value> = values.collect();
+        let mut frame = self.width.encode(&values);
         if self.rng.chance(self.misfit, 16) {
             self.bend(&mut frame);
         }
@@ -277,11 +326,11 @@ impl Adversary for Liar<'_> {
 // Damage
 
 /// A sheet with another head: it meets one of 22, 1, 3 to 7, 26, 8, 18 and 23, or more than one, or has no sets.
-fn bad_head(rng: &mut Prng) -> Vec<u8> {
-    let sheet = good(rng);
+fn bad_head(width: Width, rng: &mut Prng) -> Vec<u8> {
+    let sheet = good(width, rng);
     let mut lines = sheet.lines();
     for _ in 0..rng.pick(&[1, 1, 1, 2, 3]) {
-        hurt_head(&mut lines[0], &sheet.plan, rng);
+        hurt_head(width, &mut lines[0], &sheet.plan, rng);
     }
     let mut text = write(&lines);
     if rng.chance(1, 8) {
@@ -290,38 +339,38 @@ fn bad_head(rng: &mut Prng) -> Vec<u8> {
     text
 }
 
-fn hurt_head(head: &mut Vec<u8>, plan: &Plan, rng: &mut Prng) {
-    let last = head.len() - 1;
+fn hurt_head(width: Width, head: &mut Vec<u8>, plan: &Plan, rng: &mut Prng) {
+    let (at, last) = (width.head(), head.len() - 1);
     match rng.below(17) {
         0 => head[0] = rng.pick(&[0, 8, 9, 255]),
-        1 if last > 1 => head[1] = rng.pick(&[0, 1]),
-        2 if last > 2 => raise_default(head, rng),
-        3 if last > 3 => head[3] = plan.n + rng.below(3) as u8,
-        4 if last > 4 => head[4] = rng.pick(&BAD_DEPTHS),
-        5 if last > 5 => head[5] = head[1].saturating_add(rng.below(3) as u8),
+        1 if last >= at.default => width.put_number(head, at.span, rng.pick(&[0, 1])),
+        2 if last >= at.dealer => raise_default(width, head, rng),
+        3 if last > at.dealer => head[at.dealer] = plan.n + rng.below(3) as u8,
+        4 if last > at.depth => head[at.depth] = rng.pick(&BAD_DEPTHS),
+        5 if last >= at.count => raise_value(width, head, rng.below(3) as Value),
         6 => {
-            swap_sets(head, &[]);
+            swap_sets(width, head, &[]);
             if rng.chance(1, 2) {
                 *head.last_mut().unwrap() = 0;
             }
         }
-        7 => swap_sets(head, &vec![0; 33 + rng.below(3)]),
-        8 => swap_sets(head, &vec![rng.byte(); 1 + rng.below(3)]),
-        9 => swap_sets(head, &covering(plan.n, rng)),
+        7 => swap_sets(width, head, &vec![0; 33 + rng.below(3)]),
+        8 => swap_sets(width, head, &vec![rng.byte(); 1 + rng.below(3)]),
+        9 => swap_sets(width, head, &covering(plan.n, rng)),
         10 => head[last] = rng.byte() & all(plan.n),
         11 => head[last] = rng.byte(),
         12 => head.truncate(rng.below(head.len() + 1).max(1)),
-        13 if last > 5 => {
-            head[5] = head[1];
+        13 if last >= at.count => {
+            raise_value(width, head, 0);
             head[last] = rng.byte();
         }
-        14 if last > 2 => {
-            head[1] = rng.pick(&[0, 1]);
-            raise_default(head, rng);
+        14 if last >= at.dealer => {
+            width.put_number(head, at.span, rng.pick(&[0, 1]));
+            raise_default(width, head, rng);
         }
-        15 if last > 4 => {
-            raise_default(head, rng);
-            head[4] = rng.pick(&BAD_DEPTHS);
+        15 if last > at.depth => {
+            raise_default(width, head, rng);
+            head[at.depth] = rng.pick(&BAD_DEPTHS);
         }
         _ => head.push(rng.byte()),
     }
@@ -331,8 +380,17 @@ fn hurt_head(head: &mut Vec<u8>, plan: &Plan, rng: &mut Prng) {
 pub const BAD_DEPTHS: [u8; 8] = [1, 2, 3, 8, 9, 128, 132, 255];
 
 /// Gives a head a default that is not below its span.
-fn raise_default(head: &mut [u8], rng: &mut Prng) {
-    head[2] = head[1].saturating_add(rng.pick(&[0, 0, 1, 2, 255]));
+fn raise_default(width: Width, head: &mut [u8], rng: &mut Prng) {
+    let (at, by) = (width.head(), rng.pick(&[0, 0, 1, 2, width.blank()]));
+    let span = width.number_at(head, at.span);
+    width.put_number(head, at.default, width.raise(span, by));
+}
+
+/// Gives a head a dealer's value that is so much above its span.
+fn raise_value(width: Width, head: &mut [u8], by: Value) {
+    let at = width.head();
+    let span = width.number_at(head, at.span);
+    width.put_number(head, at.value, width.raise(span, by));
 }
 
 /// One to three sets that cover all boards, at times with others.
@@ -348,10 +406,10 @@ fn covering(n: u8, rng: &mut Prng) -> Vec<Set> {
 }
 
 /// Gives a head other sets.
-fn swap_sets(head: &mut Vec<u8>, sets: &[Set]) {
-    if head.len() >= 8 {
+fn swap_sets(width: Width, head: &mut Vec<u8>, sets: &[Set]) {
+    if head.len() >= width.head_length(0) {
         let faulty = head[head.len() - 1];
-        head.truncate(6);
+        head.truncate(width.head().count);
         head.push(sets.len() as u8);
         head.extend(sets);
         head.push(faulty);
@@ -359,8 +417,8 @@ fn swap_sets(head: &mut Vec<u8>, sets: &[Set]) {
 }
 
 /// A good sheet with damaged frame lines or text.
-fn damaged(rng: &mut Prng) -> Vec<u8> {
-    let sheet = good(rng);
+fn damaged(width: Width, rng: &mut Prng) -> Vec<u8> {
+    let sheet = good(width, rng);
     let mut lines = sheet.lines();
     for _ in 0..rng.pick(&[0, 1, 1, 1, 2]) {
         hurt_lines(&mut lines, rng);
@@ -419,8 +477,8 @@ fn nonsense(rng: &mut Prng) -> Vec<u8> {
 }
 
 /// A sheet of about the greatest length, filled up by an overlong frame or by newlines.
-fn oversized(rng: &mut Prng) -> Vec<u8> {
-    let mut text = good(rng).write();
+fn oversized(width: Width, rng: &mut Prng) -> Vec<u8> {
+    let mut text = good(width, rng).write();
     let wanted = LONGEST - 2 + rng.below(5);
     let ending = text.pop();
     while text.len() + 1 < wanted {

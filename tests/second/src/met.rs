@@ -5,6 +5,7 @@ use crate::entry::{Entry, Rule};
 use crate::plan::has;
 use crate::record::{Ground, Record};
 use crate::script::Act;
+use crate::width::Width;
 use std::collections::BTreeMap;
 
 /// The numbers that each call can answer, 0 if it is taken, by the names of `Act::CALLS`.
@@ -18,6 +19,9 @@ const ANSWERS: [(&str, &[u8]); 8] = [
     ("decide", &[0, 12, 19]),
     ("deal", &[0, 1, 3, 4, 5, 6, 7, 26, 8, 18]),
 ];
+
+/// Only values of two bytes can give a frame of an odd length.
+const ODD: &str = "frame of an odd length";
 
 /// Counts by name.
 #[derive(Default)]
@@ -35,7 +39,7 @@ impl Met {
     }
 
     /// A call was made on a record.
-    pub fn call(&mut self, act: &Act, said: &Said, before: &Record) {
+    pub fn call(&mut self, width: Width, act: &Act, said: &Said, before: &Record) {
         let Some(name) = Act::CALLS
             .get(act.kind() as usize)
             .filter(|_| act.kind() > 0)
@@ -50,18 +54,24 @@ impl Met {
             }
         }
         match act {
-            Act::Receive(sender, frame) if said.number == 0 => self.frame(*sender, frame, before),
+            Act::Receive(sender, frame) if said.number == 0 => {
+                self.frame(width, *sender, frame, before)
+            }
             _ => (),
         }
     }
 
     /// A frame was taken.
-    fn frame(&mut self, sender: u8, frame: &[u8], before: &Record) {
+    fn frame(&mut self, width: Width, sender: u8, frame: &[u8], before: &Record) {
         if has(before.list.set(), sender) {
             self.count("frame from a listed board".into());
         }
-        if frame.iter().any(|value| *value >= before.plan.span) {
+        let mut values = width.decode(frame).into_iter();
+        if values.any(|value| value >= before.plan.span) {
             self.count("frame with a value of m or more".into());
+        }
+        if frame.len() % width.bytes() != 0 {
+            self.count(ODD.into());
         }
     }
 
@@ -88,8 +98,8 @@ impl Met {
         }
     }
 
-    /// What has to be met, and was not.
-    pub fn missing(&self) -> Vec<String> {
+    /// What has to be met at a width, and was not.
+    pub fn missing(&self, width: Width) -> Vec<String> {
         let mut wanted: Vec<String> = vec![];
         for (call, numbers) in ANSWERS {
             wanted.extend(numbers.iter().map(|number| format!("{call} {number}")));
@@ -116,6 +126,9 @@ impl Met {
         }
         wanted.push("frame from a listed board".into());
         wanted.push("frame with a value of m or more".into());
+        if width == Width::Two {
+            wanted.push(ODD.into());
+        }
         wanted.retain(|name| !self.0.contains_key(name));
         wanted
     }

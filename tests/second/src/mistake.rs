@@ -1,5 +1,7 @@
 //! Deliberate mistakes, to see that the sheets can tell them from the right engine.
 
+use crate::width::{Width, CURRENT};
+
 #[derive(Clone, Copy, Debug, PartialEq, Eq, PartialOrd, Ord)]
 pub enum Mistake {
     /// Nodes of a level with equal last board share one resolved value.
@@ -24,7 +26,7 @@ pub enum Mistake {
     OverlongCut,
     /// A frame that is too short is filled up with the default.
     ShortFilled,
-    /// The length of a frame is counted in one byte: 256 values more are not noticed.
+    /// The length of a frame is counted in one byte: 256 bytes more are not noticed.
     LengthInAByte,
     /// A value of m or more is stored as it came, and counts as the default when read.
     RawStored,
@@ -102,6 +104,20 @@ pub enum Mistake {
     PlaceOfFirstBoard,
     /// A healthy dealer's line has the place of F.
     DealerPlace,
+    /// Values stand in frames with the low byte first.
+    LowByteFirst,
+    /// Span, default and dealer's value stand in the head with the low byte first.
+    HeadLowByteFirst,
+    /// A decision is printed with the low byte first.
+    DecisionLowByteFirst,
+    /// A frame of an odd length loses its last byte.
+    OddRoundedDown,
+    /// Of a value in a frame the low byte is stored.
+    HighByteLost,
+    /// The mark of a cell without a value is 00FF: a node that resolves to 255 is unresolved.
+    MarkFF,
+    /// FFFF is below a span of 65,535.
+    MarkBelowSpan,
     /// A rule that would list a board again writes its entry anew.
     EntryOverwritten,
     /// An entry has the run and the round that come next.
@@ -127,7 +143,8 @@ pub enum Mistake {
 }
 
 impl Mistake {
-    pub const ALL: [Mistake; 61] = [
+    /// All mistakes, at both widths.
+    pub const ALL: [Mistake; 68] = [
         Mistake::CachedValue,
         Mistake::CachedVerdict,
         Mistake::GWithoutList,
@@ -178,6 +195,13 @@ impl Mistake {
         Mistake::PlaceOfFaulty,
         Mistake::PlaceOfFirstBoard,
         Mistake::DealerPlace,
+        Mistake::LowByteFirst,
+        Mistake::HeadLowByteFirst,
+        Mistake::DecisionLowByteFirst,
+        Mistake::OddRoundedDown,
+        Mistake::HighByteLost,
+        Mistake::MarkFF,
+        Mistake::MarkBelowSpan,
         Mistake::EntryOverwritten,
         Mistake::EntryOfNextRound,
         Mistake::EntryInRun1,
@@ -191,6 +215,17 @@ impl Mistake {
         Mistake::EntryBoardUnjudged,
     ];
 
+    /// The mistakes that can be made at a width.
+    pub fn at(width: Width) -> Vec<Mistake> {
+        let made = |mistake: &Mistake| width == Width::Two || !mistake.needs_two();
+        Mistake::ALL.into_iter().filter(made).collect()
+    }
+
+    /// Mistakes about values of two bytes.
+    fn needs_two(self) -> bool {
+        (Mistake::LowByteFirst..=Mistake::MarkBelowSpan).contains(&self)
+    }
+
     /// Mistakes that no sheet can show, and that calls tell: with `RawStored` cells differ, what is printed does not;
     /// `CellIsZero` is about cells of m or more, which no sheet leads to; entries are not printed, and no sheet leads to
     /// number 12.
@@ -201,8 +236,14 @@ impl Mistake {
 
     /// The mistakes that a sheet tells from the right engine, accepted or refused.
     pub fn told_by(sheet: &[u8]) -> Vec<Mistake> {
-        let right = crate::bench(sheet);
-        let tells = |mistake: &Mistake| crate::bench_with(sheet, *mistake) != right;
-        Mistake::ALL.into_iter().filter(tells).collect()
+        Mistake::told_by_at(CURRENT, sheet)
+    }
+
+    pub fn told_by_at(width: Width, sheet: &[u8]) -> Vec<Mistake> {
+        let printed = |mistake| crate::print(&crate::play_at(width, sheet, mistake));
+        let right = printed(None);
+        let mut told = Mistake::at(width);
+        told.retain(|mistake| printed(Some(*mistake)) != right);
+        told
     }
 }

@@ -1,6 +1,7 @@
 //! Structures, plans and the tree of labels.
 
 use crate::mistake::Mistake;
+use crate::width::Value;
 use std::collections::BTreeSet;
 
 /// A node's boards from the dealer on. The empty label stands above the root.
@@ -37,9 +38,9 @@ pub struct Plan {
     pub n: u8,
     pub sets: Vec<Set>,
     pub dealer: u8,
-    pub span: u8,
+    pub span: Value,
     /// The value that is put where there is none.
-    pub default: u8,
+    pub default: Value,
     pub depth: u8,
 }
 
@@ -65,11 +66,18 @@ impl Plan {
         sets.err().or(first.map(|(number, _)| number))
     }
 
-    /// A byte taken as a value: the default if there is none or if it is m or more; 0 for the default if `zero`, which
+    /// A number taken as a value: the default if there is none or if it is m or more; 0 for the default if `zero`, which
     /// only a mistake asks for.
-    pub fn value(&self, byte: Option<u8>, zero: bool) -> u8 {
+    pub fn value_with(&self, number: Option<Value>, zero: bool, mistake: Option<Mistake>) -> Value {
         let default = if zero { 0 } else { self.default };
-        byte.filter(|b| *b < self.span).unwrap_or(default)
+        let below = |number: &Value| self.below(*number, mistake);
+        number.filter(below).unwrap_or(default)
+    }
+
+    /// Whether a number is below m, with the mistake if it is one about this.
+    pub fn below(&self, number: Value, mistake: Option<Mistake>) -> bool {
+        let all = mistake == Some(Mistake::MarkBelowSpan) && self.span == Value::MAX;
+        number < self.span || all
     }
 
     /// The place of the first listed set that holds this one, if one does. The empty set is held at place 0, also by an

@@ -1,5 +1,7 @@
 //! A small generator of pseudo-random numbers (splitmix64).
 
+use crate::width::{Value, Width};
+
 pub struct Prng(u64);
 
 impl Prng {
@@ -22,6 +24,11 @@ impl Prng {
 
     pub fn byte(&mut self) -> u8 {
         self.draw() as u8
+    }
+
+    /// A value of this width, or a number that is none.
+    pub fn value(&mut self, width: Width) -> Value {
+        self.draw() as Value & width.blank()
     }
 
     /// True in `part` of `whole` cases.

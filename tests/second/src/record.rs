@@ -3,6 +3,7 @@
 use crate::entry::{Entry, List, Rule};
 use crate::mistake::Mistake;
 use crate::plan::{all, Plan, Set};
+use crate::width::{Value, Width};
 
 /// The slots for sets.
 pub const SLOTS: usize = 32;
@@ -12,8 +13,8 @@ pub const SLOTS: usize = 32;
 pub struct Fields {
     pub n: u8,
     pub dealer: u8,
-    pub span: u8,
-    pub default: u8,
+    pub span: Value,
+    pub default: Value,
     pub depth: u8,
     pub count: u8,
     pub sets: [Set; SLOTS],
@@ -60,28 +61,38 @@ impl Fields {
         }
     }
 
-    /// A field by its number: n, dealer, span, default, depth, count; from 32 on a slot.
-    pub fn field(&mut self, number: u8) -> &mut u8 {
+    /// Puts a field by its number: n, dealer, span, default, depth, count; from 32 on a slot. All but span and default take
+    /// the low byte.
+    pub fn put(&mut self, number: u8, value: Value) {
+        let byte = value as u8;
         match number {
-            0 => &mut self.n,
-            1 => &mut self.dealer,
-            2 => &mut self.span,
-            3 => &mut self.default,
-            4 => &mut self.depth,
-            5 => &mut self.count,
-            _ => &mut self.sets[number as usize - SLOTS],
+            0 => self.n = byte,
+            1 => self.dealer = byte,
+            2 => self.span = value,
+            3 => self.default = value,
+            4 => self.depth = byte,
+            5 => self.count = byte,
+            _ => self.sets[number as usize - SLOTS] = byte,
         }
     }
 
-    pub fn bytes(&self) -> Vec<u8> {
-        let mut bytes = vec![
-            self.n,
-            self.dealer,
-            self.span,
-            self.default,
-            self.depth,
-            self.count,
-        ];
+    /// A field by its number.
+    pub fn get(&self, number: u8) -> Value {
+        match number {
+            0 => self.n.into(),
+            1 => self.dealer.into(),
+            2 => self.span,
+            3 => self.default,
+            4 => self.depth.into(),
+            5 => self.count.into(),
+            _ => self.sets[number as usize - SLOTS].into(),
+        }
+    }
+
+    pub fn bytes(&self, width: Width) -> Vec<u8> {
+        let mut bytes = vec![self.n, self.dealer];
+        bytes.extend(width.encode(&[self.span, self.default]));
+        bytes.extend([self.depth, self.count]);
         bytes.extend(self.sets);
         bytes
     }
@@ -96,7 +107,7 @@ pub struct Record {
     pub list: List,
     pub marks: Set,
     pub decided: bool,
-    pub decision: u8,
+    pub decision: Value,
 }
 
 /// Why number 12 is met.
@@ -235,41 +246,43 @@ impl Record {
     }
 
     /// Puts a field by its number: board, run, round, marks, decided, decision; from 128 on one of the plan.
-    pub fn put(&mut self, number: u8, value: u8) {
+    pub fn put(&mut self, number: u8, value: Value) {
+        let byte = value as u8;
         match number {
-            0 => self.board = value,
-            1 => self.run = value,
-            2 => self.round = value,
-            3 => self.marks = value,
-            4 => self.decided = value == 1,
+            0 => self.board = byte,
+            1 => self.run = byte,
+            2 => self.round = byte,
+            3 => self.marks = byte,
+            4 => self.decided = byte == 1,
             5 => self.decision = value,
-            _ => *self.plan.field(number - 128) = value,
+            _ => self.plan.put(number - 128, value),
         }
     }
 
     /// A field by its number.
-    pub fn get(&mut self, number: u8) -> u8 {
+    pub fn get(&self, number: u8) -> Value {
         match number {
-            0 => self.board,
-            1 => self.run,
-            2 => self.round,
-            3 => self.marks,
+            0 => self.board.into(),
+            1 => self.run.into(),
+            2 => self.round.into(),
+            3 => self.marks.into(),
             4 => self.decided.into(),
             5 => self.decision,
-            _ => *self.plan.field(number - 128),
+            _ => self.plan.get(number - 128),
         }
     }
 
     /// The plan, seven entries, board, run, round, the list as a set, marks, decided, decision.
-    pub fn bytes(&self) -> Vec<u8> {
-        let mut bytes = self.plan.bytes();
+    pub fn bytes(&self, width: Width) -> Vec<u8> {
+        let mut bytes = self.plan.bytes(width);
         self.list
             .0
             .iter()
             .for_each(|e| bytes.extend(entry_bytes(*e)));
         bytes.extend([self.board, self.run, self.round]);
         bytes.extend([self.list.set(), self.marks]);
-        bytes.extend([self.decided.into(), self.decision]);
+        bytes.push(self.decided.into());
+        bytes.extend(width.encode(&[self.decision]));
         bytes
     }
 }

@@ -1,6 +1,7 @@
 //! What the roots that healthy boards hold between runs are worth.
 
 use crate::session::Outcome;
+use crate::width::Value;
 
 /// What is claimed of every accepted sheet, by name.
 pub const CLAIMS: [(&str, fn(&Outcome) -> bool); 3] = [
@@ -23,13 +24,13 @@ pub const KINDS: [(&str, fn(&Outcome) -> bool); 3] = [
 ];
 
 /// The root that all boards hold, if they hold one.
-fn common(roots: &[u8]) -> Option<u8> {
+fn common(roots: &[Value]) -> Option<Value> {
     let first = roots.first()?;
     roots.iter().all(|root| root == first).then_some(*first)
 }
 
 fn stays(outcome: &Outcome) -> bool {
-    let kept = |pair: &[Vec<u8>]| match common(&pair[0]) {
+    let kept = |pair: &[Vec<Value>]| match common(&pair[0]) {
         Some(root) => common(&pair[1]) == Some(root),
         None => true,
     };
@@ -37,7 +38,7 @@ fn stays(outcome: &Outcome) -> bool {
 }
 
 /// The value of a healthy dealer.
-fn dealers_value(outcome: &Outcome) -> Option<u8> {
+fn dealers_value(outcome: &Outcome) -> Option<Value> {
     let dealer = outcome.plan.dealer;
     let line = outcome.lines.iter().find(|line| line.board == dealer);
     line.map(|line| line.decision)
@@ -64,12 +65,12 @@ fn bound(outcome: &Outcome) -> bool {
 }
 
 fn becomes_equal(outcome: &Outcome) -> bool {
-    let equal = |pair: &[Vec<u8>]| common(&pair[0]).is_none() && common(&pair[1]).is_some();
+    let equal = |pair: &[Vec<Value>]| common(&pair[0]).is_none() && common(&pair[1]).is_some();
     outcome.roots.windows(2).any(equal)
 }
 
 /// Whether faulty boards told another value than this root after a run.
-fn others_after(outcome: &Outcome, run: usize, root: u8) -> bool {
+fn others_after(outcome: &Outcome, run: usize, root: Value) -> bool {
     let mut later = outcome.heard.iter().skip(run).flatten();
     later.any(|value| *value != root)
 }

@@ -2,25 +2,35 @@
 
 use crate::entry::Entry;
 use crate::record::entry_bytes;
+use crate::width::{Value, Width};
 
 /// The bytes of a block, and where its list of bytes starts.
 pub const BLOCK: usize = 512;
 pub const START: usize = 16;
 
-/// The cells and the output that the program has.
+/// The cells that the program has.
 pub const CELLS: usize = 1957 + 11;
-pub const OUT: usize = 120 + 8;
+
+/// The output that the program has: the longest frame, and a surplus.
+pub fn out(width: Width) -> usize {
+    120 * width.bytes() + 8
+}
+
+/// The bytes that a block has for its numbers: the most are those of a plan.
+fn room_for_numbers(width: Width) -> usize {
+    3 + 2 * width.bytes()
+}
 
 /// A call, or a change that no call makes.
 #[derive(Clone, Debug, PartialEq, Eq)]
 pub enum Act {
-    /// A void record; all cells and all output hold these bytes.
-    Start(u8, u8),
+    /// A void record; all cells hold this number, all output this byte.
+    Start(Value, u8),
     /// A plan for the record: n, dealer, span, default, depth; the sets.
-    Plan([u8; 5], Vec<u8>),
+    Plan([Value; 5], Vec<u8>),
     /// On the record's plan.
     Begin(u8),
-    /// A sender and its frame.
+    /// A sender and the bytes of its frame.
     Receive(u8, Vec<u8>),
     Send,
     Close,
@@ -28,12 +38,12 @@ pub enum Act {
     CloseLent,
     Decide,
     /// On the record's plan.
-    Deal(u8),
+    Deal(Value),
     /// A field of the record, and an entry.
-    ChangeRecord(u8, u8),
+    ChangeRecord(u8, Value),
     ChangeEntry(u8, Option<Entry>),
     /// Cells from a place on.
-    ChangeCells(usize, Vec<u8>),
+    ChangeCells(usize, Vec<Value>),
 }
 
 impl Act {
@@ -68,26 +78,29 @@ impl Act {
         }
     }
 
-    /// Its numbers.
-    fn numbers(&self) -> Vec<u8> {
+    /// Its numbers: span, default, a value and the contents of a cell or of a field as values, others as bytes.
+    fn numbers(&self, width: Width) -> Vec<u8> {
+        let value = |value: &Value| width.encode(&[*value]);
         match self {
-            Act::Plan(numbers, _) => numbers.to_vec(),
-            Act::Begin(x) | Act::Receive(x, _) | Act::Deal(x) => vec![*x],
-            Act::Start(x, y) | Act::ChangeRecord(x, y) => vec![*x, *y],
-            Act::ChangeEntry(board, entry) => {
-                let mut numbers = vec![*board];
-                numbers.extend(entry_bytes(*entry));
-                numbers
+            Act::Start(cell, byte) => [value(cell), vec![*byte]].concat(),
+            Act::Plan([n, dealer, span, default, depth], _) => {
+                let [n, dealer, depth] = [n, dealer, depth].map(|number| *number as u8);
+                [vec![n, dealer], value(span), value(default), vec![depth]].concat()
             }
+            Act::Begin(number) | Act::Receive(number, _) => vec![*number],
+            Act::Deal(dealt) => value(dealt),
+            Act::ChangeRecord(field, content) => [vec![*field], value(content)].concat(),
+            Act::ChangeEntry(board, entry) => [&[*board], &entry_bytes(*entry)[..]].concat(),
             _ => vec![],
         }
     }
 
     /// Its list of bytes.
-    fn bytes(&self) -> &[u8] {
+    fn bytes(&self, width: Width) -> Vec<u8> {
         match self {
-            Act::Plan(_, bytes) | Act::Receive(_, bytes) | Act::ChangeCells(_, bytes) => bytes,
-            _ => &[],
+            Act::Plan(_, bytes) | Act::Receive(_, bytes) => bytes.clone(),
+            Act::ChangeCells(_, values) => width.encode(values),
+            _ => vec![],
         }
     }
 }
@@ -102,7 +115,9 @@ pub struct Step {
 }
 
 impl Step {
-    pub fn block(&self) -> [u8; BLOCK] {
+    /// Kind and numbers; then the cells that are lent or where a change starts, those that are told, the output that is
+    /// lent, and the length of the list; then the list.
+    pub fn block(&self, width: Width) -> [u8; BLOCK] {
         let mut block = [0; BLOCK];
         let mut put = |at: usize, bytes: &[u8]| block[at..at + bytes.len()].copy_from_slice(bytes);
         let lent = match self.act {
@@ -110,14 +125,15 @@ impl Step {
             _ => self.lent,
         };
         let pair = |number: usize| (number as u16).to_be_bytes();
-        let bytes = self.act.bytes();
+        let bytes = self.act.bytes(width);
+        let sizes = 1 + room_for_numbers(width);
         put(0, &[self.act.kind()]);
-        put(1, &self.act.numbers());
-        put(6, &pair(lent));
-        put(8, &pair(self.shown));
-        put(10, &[self.room as u8]);
-        put(11, &pair(bytes.len()));
-        put(START, bytes);
+        put(1, &self.act.numbers(width));
+        put(sizes, &pair(lent));
+        put(sizes + 2, &pair(self.shown));
+        put(sizes + 4, &[self.room as u8]);
+        put(sizes + 5, &pair(bytes.len()));
+        put(START, &bytes);
         block
     }
 }

@@ -10,13 +10,15 @@ use crate::mistake::Mistake;
 use crate::plan::{all, has, Label, Plan, Tree};
 use crate::prng::Prng;
 use crate::record::Fields;
-use crate::script::{Act, Step, CELLS, OUT};
+use crate::script::{out, Act, Step, CELLS};
 use crate::session::{play, Adversary, Keepers};
 use crate::sheet::{Sheet, Slot};
+use crate::width::{Value, Width, CURRENT};
 use std::collections::{BTreeMap, HashMap};
 
 /// Steps, and what is told after each.
 pub struct Script {
+    pub width: Width,
     pub seed: u64,
     pub steps: Vec<(Step, Vec<u8>)>,
     pub met: Met,
@@ -25,14 +27,18 @@ pub struct Script {
 impl Script {
     /// The script of a seed.
     pub fn new(seed: u64) -> Script {
-        let mut maker = Maker::new(seed);
+        Script::at(CURRENT, seed)
+    }
+
+    /// The same at a width.
+    pub fn at(width: Width, seed: u64) -> Script {
+        let mut maker = Maker::new(width, seed);
         match maker.rng.below(16) {
             0..=7 => maker.fair(),
             8..=14 => maker.foreign(),
             _ => maker.refusals(),
         }
-        let Maker { steps, met, .. } = maker;
-        Script { seed, steps, met }
+        maker.script(seed)
     }
 
     /// Board 1 of four, where the dealer, board 0, tells each board another value: rule G lists it.
@@ -45,29 +51,28 @@ impl Script {
             default: 15,
             depth: 0,
         };
-        let mut maker = Maker::new(0);
+        let mut maker = Maker::new(CURRENT, 0);
+        let frame = |value: Value| CURRENT.encode(&[value]);
         maker.start(&plan);
         let acts = [
             Act::Begin(1),
-            Act::Receive(0, vec![5]),
+            Act::Receive(0, frame(5)),
             Act::Close,
             Act::Send,
-            Act::Receive(2, vec![7]),
-            Act::Receive(3, vec![9]),
+            Act::Receive(2, frame(7)),
+            Act::Receive(3, frame(9)),
             Act::CloseLent,
             Act::Decide,
         ];
         maker.act_all(acts.to_vec());
-        let Maker { steps, met, .. } = maker;
-        let seed = 0;
-        Script { seed, steps, met }
+        maker.script(0)
     }
 
     /// What the program reads.
     pub fn blocks(&self) -> Vec<u8> {
         self.steps
             .iter()
-            .flat_map(|(step, _)| step.block())
+            .flat_map(|(step, _)| step.block(self.width))
             .collect()
     }
 
@@ -81,7 +86,7 @@ impl Script {
 
     /// Whether a mistake shows in what is told.
     pub fn tells(&self, mistake: Mistake) -> bool {
-        let mut state = State::new(Some(mistake));
+        let mut state = State::new(self.width, Some(mistake));
         let differs = |(step, told): &(Step, Vec<u8>)| {
             let said = state.make(step);
             state.told(&said, step) != *told
@@ -109,6 +114,7 @@ impl Adversary for Recorder<'_> {
 }
 
 struct Maker {
+    width: Width,
     rng: Prng,
     state: State,
     steps: Vec<(Step, Vec<u8>)>,
@@ -119,10 +125,11 @@ struct Maker {
 }
 
 impl Maker {
-    fn new(seed: u64) -> Maker {
+    fn new(width: Width, seed: u64) -> Maker {
         Maker {
+            width,
             rng: Prng::new(seed),
-            state: State::new(None),
+            state: State::new(width, None),
             steps: vec![],
             met: Met::default(),
             kind: "other",
@@ -130,10 +137,25 @@ impl Maker {
         }
     }
 
+    /// What was made, from a seed.
+    fn script(self, seed: u64) -> Script {
+        Script {
+            width: self.width,
+            seed,
+            steps: self.steps,
+            met: self.met,
+        }
+    }
+
+    /// All output.
+    fn out(&self) -> usize {
+        out(self.width)
+    }
+
     /// Takes a step with as many cells as are needed, or more, and all output.
     fn act(&mut self, act: Act) -> Said {
         let lent = (cell_count(self.state.record.plan.n) + self.rng.below(12)).min(CELLS);
-        self.act_with(act, lent, OUT)
+        self.act_with(act, lent, self.out())
     }
 
     fn act_with(&mut self, act: Act, lent: usize, room: usize) -> Said {
@@ -147,7 +169,7 @@ impl Maker {
         let before = self.state.record.clone();
         let said = self.state.make(&step);
         let told = self.state.told(&said, &step);
-        self.met.call(&step.act, &said, &before);
+        self.met.call(self.width, &step.act, &said, &before);
         if said.number == 0 && matches!(step.act, Act::Close | Act::CloseLent) {
             self.met.closing(self.kind, &before, &self.state.record);
         }
@@ -167,7 +189,7 @@ impl Maker {
     /// A fresh start on a plan.
     fn start(&mut self, plan: &Plan) {
         self.shown = (cell_count(plan.n) + 11).min(CELLS);
-        let (cell, out) = (self.rng.byte(), self.rng.byte());
+        let (cell, out) = (self.rng.value(self.width), self.rng.byte());
         self.act(Act::Start(cell, out));
         self.act(planning(plan));
     }
@@ -178,18 +200,19 @@ impl Maker {
     fn fair(&mut self) {
         self.kind = "fair";
         let sheet = if self.rng.chance(1, 2) {
-            chain::sheet(&mut self.rng)
+            chain::sheet(self.width, &mut self.rng)
         } else {
-            make::good(&mut self.rng)
+            make::good(self.width, &mut self.rng)
         };
         let mut recorder = Recorder {
             sheet: &sheet,
             stored: BTreeMap::new(),
         };
         let plan = &sheet.plan;
-        let outcome = play(plan, sheet.value, sheet.faulty, &mut recorder, None);
+        let (value, faulty) = (sheet.value, sheet.faulty);
+        let outcome = play(self.width, plan, value, faulty, &mut recorder, None);
         self.start(plan);
-        self.act(Act::Deal(sheet.value));
+        self.act(Act::Deal(value));
         let mut keeping = outcome.lines;
         keeping.retain(|line| line.board != plan.dealer);
         if keeping.is_empty() {
@@ -242,10 +265,10 @@ impl Maker {
                 let lent =
                     [cells.saturating_sub(1), self.rng.below(cells.max(1))][self.rng.below(2)];
                 let act = self.call();
-                self.act_with(act, lent, OUT);
+                self.act_with(act, lent, self.out());
             }
             3 => {
-                let room = self.rng.below(24);
+                let room = self.rng.below(24 * self.width.bytes());
                 self.act_with(Act::Send, CELLS, room);
             }
             4 => drop(self.act(Act::Send)),
@@ -295,16 +318,16 @@ impl Maker {
         if !before.grounds().is_empty() {
             return;
         }
-        let changes = damage::record(&before, &mut self.rng);
+        let changes = damage::record(self.width, &before, &mut self.rng);
         self.act_all(changes);
         if !self.state.record.grounds().is_empty() {
             for _ in 0..1 + self.rng.below(3) {
                 let act = self.call();
                 let lent = self.rng.below(CELLS + 1);
-                self.act_with(act, lent, OUT);
+                self.act_with(act, lent, self.out());
             }
         }
-        self.act_all(damage::mended(self.state.record.clone(), before));
+        self.act_all(damage::mended(&self.state.record, &before));
     }
 
     /// All calls once on a record that is decided or void.
@@ -323,7 +346,7 @@ impl Maker {
 
     fn foreign(&mut self) {
         self.kind = "foreign";
-        let plan = make::plan(&mut self.rng);
+        let plan = make::plan(self.width, &mut self.rng);
         self.start(&plan);
         let boards: Vec<u8> = (0..plan.n).filter(|b| *b != plan.dealer).collect();
         if boards.is_empty() {
@@ -350,13 +373,13 @@ impl Maker {
     fn scatter(&mut self, plan: &Plan) {
         let values = self.strange_cells(plan);
         let mut place = 0;
-        for part in values.chunks(480) {
+        for part in values.chunks(480 / self.width.bytes()) {
             self.act(Act::ChangeCells(place, part.to_vec()));
             place += part.len();
         }
         let (run, round) = damage::position(plan, &mut self.rng);
-        self.act(Act::ChangeRecord(1, run));
-        self.act(Act::ChangeRecord(2, round));
+        self.act(Act::ChangeRecord(1, run.into()));
+        self.act(Act::ChangeRecord(2, round.into()));
         let listed = self.rng.pick(&[0, 0, 1, 3]);
         for board in 0..plan.n {
             if self.rng.chance(listed, 6) {
@@ -366,31 +389,31 @@ impl Maker {
         }
         if self.rng.chance(1, 3) {
             let marks = self.rng.byte() & all(plan.n);
-            self.act(Act::ChangeRecord(3, marks));
+            self.act(Act::ChangeRecord(3, marks.into()));
         }
         if self.rng.chance(1, 6) {
-            let decision = self.rng.byte();
+            let decision = self.rng.value(self.width);
             self.act(Act::ChangeRecord(5, decision));
         }
     }
 
     /// The last round of the run, with all frames taken: the closing reads the cells as they stand.
     fn marked_by_all(&mut self, plan: &Plan) {
-        self.act(Act::ChangeRecord(2, plan.rounds() as u8));
-        self.act(Act::ChangeRecord(3, all(plan.n)));
+        self.act(Act::ChangeRecord(2, plan.rounds() as Value));
+        self.act(Act::ChangeRecord(3, all(plan.n).into()));
     }
 
-    /// Cells of few values, of one with others here and there, or of any bytes. At times the nodes below each node of
+    /// Cells of few values, of one with others here and there, or of any numbers. At times the nodes below each node of
     /// some level have one value, so that rule G finds nothing and rule C does.
-    fn strange_cells(&mut self, plan: &Plan) -> Vec<u8> {
-        let common = [0; 3].map(|_: u8| self.rng.below(plan.span as usize) as u8);
+    fn strange_cells(&mut self, plan: &Plan) -> Vec<Value> {
+        let common = [0; 3].map(|_: u8| self.rng.below(plan.span as usize) as Value);
         let others = self.rng.pick(&[1, 4, 16, 64]);
         let any = self.rng.pick(&[0, 0, 1, 64]);
         let above = self.rng.pick(&[9, 9, 2, 3, 4, 5]);
-        let mut values: HashMap<Label, u8> = HashMap::new();
+        let mut values: HashMap<Label, Value> = HashMap::new();
         let mut value = |label: Label| {
             let random = if self.rng.chance(any, 64) {
-                self.rng.byte()
+                make::any_number(self.width, plan.span, &mut self.rng)
             } else if self.rng.chance(others, 128) {
                 self.rng.pick(&common)
             } else {
@@ -417,7 +440,7 @@ impl Maker {
             self.act(Act::Receive(sender, frame));
         }
         if self.rng.chance(1, 2) {
-            let room = [OUT, self.rng.below(OUT)][self.rng.below(2)];
+            let room = [self.out(), self.rng.below(self.out())][self.rng.below(2)];
             self.act_with(Act::Send, CELLS, room);
         }
         if self.rng.chance(1, 2) {
@@ -427,28 +450,32 @@ impl Maker {
     }
 
     fn strange_frame(&mut self, tree: &Tree, round: usize, sender: u8) -> Vec<u8> {
-        let length = tree.reported(round, sender).len();
+        let (width, span) = (self.width, tree.plan.span);
+        let length = tree.reported(round, sender).len() * width.bytes();
         let length = match self.rng.below(8) {
             0 => self.rng.below(length + 3),
             1 => length + 256,
             _ => length,
         };
-        let common = [0, 1].map(|_| self.rng.below(tree.plan.span as usize) as u8);
+        let common = [0, 1].map(|_| self.rng.below(span as usize) as Value);
         let any = self.rng.pick(&[0, 1, 16]);
         let mut value = |_| {
             if self.rng.chance(any, 16) {
-                self.rng.byte()
+                make::any_number(width, span, &mut self.rng)
             } else {
                 self.rng.pick(&common)
             }
         };
-        (0..length).map(&mut value).collect()
+        let values = (0..length.div_ceil(width.bytes())).map(&mut value);
+        let mut frame = width.encode(&values.collect::<Vec<_>>());
+        frame.truncate(length);
+        frame
     }
 
     // Refusals of planning, beginning and dealing
 
     fn refusals(&mut self) {
-        let plan = make::plan(&mut self.rng);
+        let plan = make::plan(self.width, &mut self.rng);
         self.start(&plan);
         for _ in 0..8 {
             self.bad_plan(&plan);
@@ -462,9 +489,9 @@ impl Maker {
     fn bad_plan(&mut self, plan: &Plan) {
         let mut fields = Fields::of(plan);
         for _ in 0..self.rng.pick(&[1, 1, 2]) {
-            let changes = damage::plan(&fields, &mut self.rng);
+            let changes = damage::plan(self.width, &fields, &mut self.rng);
             for (number, value) in changes {
-                *fields.field(number) = value;
+                fields.put(number, value);
                 self.act(Act::ChangeRecord(128 + number, value));
             }
         }
@@ -473,7 +500,7 @@ impl Maker {
         }
         self.act(Act::Deal(0));
         let board = self.rng.below(8) as u8;
-        self.act_with(Act::Begin(board), CELLS, OUT);
+        self.act_with(Act::Begin(board), CELLS, self.out());
         self.closed_to_all();
     }
 
@@ -482,15 +509,17 @@ impl Maker {
         let board = self.rng.pick(&[0, 1, 2, 3, 4, 5, 6, 7, 255]);
         let cells = cell_count(plan.n);
         let lent = [cells - 1, cells, self.rng.below(cells), CELLS][self.rng.below(4)];
-        self.act_with(Act::Begin(board), lent, OUT);
+        self.act_with(Act::Begin(board), lent, self.out());
         self.act(Act::Decide);
-        let value = self.rng.pick(&[0, plan.span - 1, plan.span, 255]);
+        let blank = self.width.blank();
+        let value = self.rng.pick(&[0, plan.span - 1, plan.span, blank]);
         self.act(Act::Deal(value));
     }
 }
 
 /// The call that makes a plan.
 fn planning(plan: &Plan) -> Act {
-    let numbers = [plan.n, plan.dealer, plan.span, plan.default, plan.depth];
+    let [n, dealer, depth] = [plan.n, plan.dealer, plan.depth].map(Value::from);
+    let numbers = [n, dealer, plan.span, plan.default, depth];
     Act::Plan(numbers, plan.sets.clone())
 }

@@ -4,16 +4,18 @@ use crate::plan::{child, has, Label, Plan, Set, Tree};
 use crate::prng::Prng;
 use crate::session::{play, Adversary, Keepers, Outcome};
 use crate::sheet::{Sheet, Slot};
+use crate::width::{Value, Width, CURRENT};
 use std::collections::{BTreeMap, HashMap};
 
 /// In a run, a node within F as one receiver stores it.
 pub type Place = (u8, Label, u8);
 
 /// Lies at nodes within F; elsewhere the witness's cells are told.
-pub type Lies = HashMap<Place, u8>;
+pub type Lies = HashMap<Place, Value>;
 
 /// Plays lies and writes down the frames and the places that it was asked for.
 struct Liar<'a> {
+    width: Width,
     lies: &'a Lies,
     faulty: Set,
     witness: u8,
@@ -40,8 +42,9 @@ impl Adversary for Liar<'_> {
                 self.places.push(place);
             }
         }
-        self.frames.insert(slot, values.clone());
-        Some(values)
+        let frame = self.width.encode(&values);
+        self.frames.insert(slot, frame.clone());
+        Some(frame)
     }
 
     fn converted(&mut self, tree: &Tree, keepers: &Keepers) -> bool {
@@ -66,9 +69,17 @@ pub struct Trial {
 }
 
 /// Plays lies up to a run, with the cells of one board told elsewhere.
-pub fn trial(plan: &Plan, faulty: Set, lies: &Lies, witness: u8, last: usize) -> Trial {
+pub fn trial(
+    width: Width,
+    plan: &Plan,
+    faulty: Set,
+    lies: &Lies,
+    witness: u8,
+    last: usize,
+) -> Trial {
     let (frames, places, split) = (BTreeMap::new(), vec![], vec![]);
     let mut liar = Liar {
+        width,
         lies,
         faulty,
         witness,
@@ -77,8 +88,9 @@ pub fn trial(plan: &Plan, faulty: Set, lies: &Lies, witness: u8, last: usize) ->
         split,
         last,
     };
-    let outcome = play(plan, 0, faulty, &mut liar, None);
+    let outcome = play(width, plan, 0, faulty, &mut liar, None);
     let sheet = Sheet {
+        width,
         plan: plan.clone(),
         value: 0,
         faulty,
@@ -109,8 +121,9 @@ fn score(trial: &Trial) -> usize {
 
 /// Climbs from random lies to roots that are unequal after a run.
 pub fn climb(plan: &Plan, faulty: Set, run: usize, tries: usize, rng: &mut Prng) -> Option<Lies> {
-    let places = trial(plan, faulty, &Lies::new(), 0, run).places;
-    let value = |rng: &mut Prng| rng.below(plan.span as usize) as u8;
+    let trial = |lies: &Lies| trial(CURRENT, plan, faulty, lies, 0, run);
+    let places = trial(&Lies::new()).places;
+    let value = |rng: &mut Prng| rng.below(plan.span as usize) as Value;
     let mut lies: Lies = places.iter().map(|p| (p.clone(), value(rng))).collect();
     let mut best = 0;
     for _ in 0..tries {
@@ -118,7 +131,7 @@ pub fn climb(plan: &Plan, faulty: Set, run: usize, tries: usize, rng: &mut Prng)
         for _ in 0..1 + rng.below(5) {
             next.insert(places[rng.below(places.len())].clone(), value(rng));
         }
-        let found = trial(plan, faulty, &next, 0, run);
+        let found = trial(&next);
         if found.outcome.unequal_after(run) {
             return Some(next);
         }
@@ -131,8 +144,8 @@ pub fn climb(plan: &Plan, faulty: Set, run: usize, tries: usize, rng: &mut Prng)
 }
 
 /// The sheet of lies, up to a run.
-pub fn sheet(plan: &Plan, faulty: Set, lies: &Lies, witness: u8, last: u8) -> Sheet {
-    let mut sheet = trial(plan, faulty, lies, witness, plan.runs()).sheet;
+pub fn sheet(width: Width, plan: &Plan, faulty: Set, lies: &Lies, witness: u8, last: u8) -> Sheet {
+    let mut sheet = trial(width, plan, faulty, lies, witness, plan.runs()).sheet;
     sheet.frames.retain(|slot, _| slot.run <= last);
     sheet
 }

@@ -5,13 +5,14 @@ use crate::line::Line;
 use crate::mistake::Mistake;
 use crate::plan::{has, Label, Plan, Set, Tree};
 use crate::sheet::{Sheet, Slot};
+use crate::width::{Value, Width};
 use std::collections::{BTreeMap, BTreeSet};
 
 pub type Keepers = BTreeMap<u8, Keeper>;
 
 /// Gives the frames of the faulty boards.
 pub trait Adversary {
-    /// The frame for a slot; `nodes` are the labels it reports, in order.
+    /// The bytes for a slot; `nodes` are the labels that they report, in order.
     fn frame(&mut self, slot: Slot, nodes: &[Label], keepers: &Keepers) -> Option<Vec<u8>>;
 
     /// Called for each frame that a keeper stores, or for its absence.
@@ -30,24 +31,29 @@ impl Adversary for &BTreeMap<Slot, Vec<u8>> {
     }
 }
 
+#[derive(Clone, Debug, PartialEq, Eq)]
 pub struct Outcome {
+    pub width: Width,
     pub plan: Plan,
     pub faulty: Set,
     /// What is printed for each healthy board.
     pub lines: Vec<Line>,
     /// The roots of all healthy keepers after each run.
-    pub roots: Vec<Vec<u8>>,
+    pub roots: Vec<Vec<Value>>,
     /// Their lists after each run.
     pub lists: Vec<Vec<Set>>,
-    /// All bytes that stand in frames of faulty boards.
-    pub told: BTreeSet<u8>,
-    /// The values below m in those of the due length, for each run.
-    pub heard: Vec<BTreeSet<u8>>,
+    /// All values that stand in frames of faulty boards.
+    pub told: BTreeSet<Value>,
+    /// Those below m in frames of the due length, for each run.
+    pub heard: Vec<BTreeSet<Value>>,
+    /// Whether one of their frames has a part of a value at its end.
+    pub odd: bool,
 }
 
 impl Outcome {
     pub fn print(&self) -> String {
-        self.lines.iter().map(Line::print).collect()
+        let print = |line: &Line| line.print(self.width);
+        self.lines.iter().map(print).collect()
     }
 
     /// Whether a default other than 0 was decided, and nobody told it: the dealer is faulty, no faulty frame has it.
@@ -85,6 +91,7 @@ impl Outcome {
 
 pub fn play_sheet(sheet: &Sheet, mistake: Option<Mistake>) -> Outcome {
     play(
+        sheet.width,
         &sheet.plan,
         sheet.value,
         sheet.faulty,
@@ -95,8 +102,9 @@ pub fn play_sheet(sheet: &Sheet, mistake: Option<Mistake>) -> Outcome {
 
 /// Plays a session against an adversary.
 pub fn play(
+    width: Width,
     plan: &Plan,
-    value: u8,
+    value: Value,
     faulty: Set,
     adversary: &mut dyn Adversary,
     mistake: Option<Mistake>,
@@ -104,15 +112,18 @@ pub fn play(
     let tree = Tree::new(plan);
     let healthy: Vec<u8> = (0..plan.n).filter(|b| !has(faulty, *b)).collect();
     let keeping = healthy.iter().filter(|b| **b != plan.dealer);
-    let mut keepers: Keepers = keeping.map(|b| (*b, Keeper::new(*b, mistake))).collect();
+    let keeper = |board: &u8| (*board, Keeper::new(width, *board, mistake));
+    let mut keepers: Keepers = keeping.map(keeper).collect();
+    let dealt = width.encode_with(&[value], mistake);
     let (mut roots, mut lists, mut told) = (vec![], vec![], BTreeSet::new());
-    let mut heard = vec![];
+    let (mut heard, mut odd) = (vec![], false);
     for run in 1..=plan.runs() {
         let mut heard_now = BTreeSet::new();
         for round in Plan::first_round(run)..=plan.rounds() {
-            for frame in exchange(&tree, value, faulty, run, round, &mut keepers, adversary) {
-                heard_now.extend(frame.heard(plan.span));
-                told.extend(frame.values);
+            for frame in exchange(&tree, &dealt, faulty, run, round, &mut keepers, adversary) {
+                heard_now.extend(frame.heard(width, plan.span));
+                odd |= frame.bytes.len() % width.bytes() != 0;
+                told.extend(width.decode(&frame.bytes));
             }
         }
         heard.push(heard_now);
@@ -134,14 +145,20 @@ pub fn play(
             None => (value, 0),
         };
         let explained = explained(*board, list, faulty, &keepers, mistake);
+        let swapped = mistake == Some(Mistake::DecisionLowByteFirst);
         Line {
             board: *board,
-            decision,
+            decision: if swapped {
+                decision.swap_bytes()
+            } else {
+                decision
+            },
             list,
             place: plan.place_with(explained, mistake),
         }
     };
     Outcome {
+        width,
         plan: plan.clone(),
         faulty,
         lines: healthy.iter().map(line).collect(),
@@ -149,6 +166,7 @@ pub fn play(
         lists,
         told,
         heard,
+        odd,
     }
 }
 
@@ -170,25 +188,26 @@ fn explained(
     }
 }
 
-/// A frame of a faulty board, and the values that are due.
+/// A frame of a faulty board, and how many values are due.
 struct Told {
-    values: Vec<u8>,
+    bytes: Vec<u8>,
     due: usize,
 }
 
 impl Told {
     /// The values below m, if it has the due length.
-    fn heard(&self, span: u8) -> Vec<u8> {
-        let fits = self.values.len() == self.due;
-        let values = self.values.iter().copied();
-        values.filter(|value| fits && *value < span).collect()
+    fn heard(&self, width: Width, span: Value) -> Vec<Value> {
+        let mut values = width.decode(&self.bytes);
+        let fits = values.len() == self.due;
+        values.retain(|value| fits && *value < span);
+        values
     }
 }
 
 /// One round: all frames are made, then stored, then every keeper closes. Gives all faulty frames.
 fn exchange(
     tree: &Tree,
-    value: u8,
+    dealt: &[u8],
     faulty: Set,
     run: usize,
     round: usize,
@@ -212,7 +231,7 @@ fn exchange(
             let frame = if has(faulty, sender) {
                 adversary.frame(slot, &nodes, keepers)
             } else if sender == tree.plan.dealer {
-                Some(vec![value])
+                Some(dealt.to_vec())
             } else {
                 Some(keepers[&sender].frame(tree, round))
             };
@@ -224,7 +243,7 @@ fn exchange(
         keeper.store(tree, round, slot.sender, frame.as_deref());
         adversary.stored(slot, frame.as_deref());
         if has(faulty, slot.sender) {
-            told.extend(frame.map(|values| Told { values, due }));
+            told.extend(frame.map(|bytes| Told { bytes, due }));
         }
     }
     keepers.values_mut().for_each(|k| k.close(tree, run, round));

@@ -2,6 +2,7 @@
 
 use crate::mistake::Mistake;
 use crate::plan::{all, has, Plan, Set, Tree};
+use crate::width::{Value, Width, CURRENT};
 use std::collections::BTreeMap;
 
 pub const LONGEST: usize = 65_536;
@@ -17,9 +18,11 @@ pub struct Slot {
 
 #[derive(Clone, Debug)]
 pub struct Sheet {
+    pub width: Width,
     pub plan: Plan,
-    pub value: u8,
+    pub value: Value,
     pub faulty: Set,
+    /// The bytes of each frame.
     pub frames: BTreeMap<Slot, Vec<u8>>,
 }
 
@@ -36,10 +39,10 @@ impl Refusal {
 }
 
 pub fn read(text: &[u8]) -> Result<Sheet, Refusal> {
-    read_with(text, None)
+    read_at(CURRENT, text, None)
 }
 
-pub fn read_with(text: &[u8], mistake: Option<Mistake>) -> Result<Sheet, Refusal> {
+pub fn read_at(width: Width, text: &[u8], mistake: Option<Mistake>) -> Result<Sheet, Refusal> {
     if text.len() > LONGEST {
         return Err(Refusal {
             number: 20,
@@ -55,13 +58,13 @@ pub fn read_with(text: &[u8], mistake: Option<Mistake>) -> Result<Sheet, Refusal
     };
     let first = lines.next().map_or(Err(22), |(_, line)| digits(line));
     let mut sheet = first
-        .and_then(|bytes| head(&bytes, mistake))
+        .and_then(|bytes| head(width, &bytes, mistake))
         .map_err(at(0))?;
     let tree = Tree::new(&sheet.plan);
     for (place, line) in lines {
         let bytes = digits(line).map_err(at(place))?;
         let (slot, values) = frame(&sheet, &tree, &bytes).ok_or(24).map_err(at(place))?;
-        sheet.frames.insert(slot, values);
+        sheet.frames.insert(slot, values.to_vec());
     }
     Ok(sheet)
 }
@@ -91,37 +94,41 @@ fn digit(c: u8) -> Result<u8, u8> {
 }
 
 /// The head: n, m, the default, d, b, the dealer's value, s, the sets, F.
-fn head(bytes: &[u8], mistake: Option<Mistake>) -> Result<Sheet, u8> {
-    let [n, span, default, dealer, depth, value, count, ref rest @ ..] = *bytes else {
-        return Err(22);
-    };
-    let (faulty, sets) = rest.split_last().ok_or(22)?;
-    if sets.len() != count as usize {
+fn head(width: Width, bytes: &[u8], mistake: Option<Mistake>) -> Result<Sheet, u8> {
+    let at = width.head();
+    let count = *bytes.get(at.count).ok_or(22)?;
+    if bytes.len() != width.head_length(count as usize) {
         return Err(22);
     }
-    let (faulty, sets) = (*faulty, sets.to_vec());
+    let swapped = mistake == Some(Mistake::HeadLowByteFirst);
+    let number = |place: usize| match width.number_at(bytes, place) {
+        number if swapped => number.swap_bytes(),
+        number => number,
+    };
+    let (faulty, value) = (bytes[bytes.len() - 1], number(at.value));
     let plan = Plan {
-        n,
-        sets,
-        dealer,
-        span,
-        default,
-        depth,
+        n: bytes[0],
+        sets: bytes[at.sets..bytes.len() - 1].to_vec(),
+        dealer: bytes[at.dealer],
+        span: number(at.span),
+        default: number(at.default),
+        depth: bytes[at.depth],
     };
     if let Some(number) = plan.refusal_with(mistake) {
         return Err(number);
     }
-    let untolerated = faulty & !all(n) != 0 || plan.place_with(faulty, mistake).is_none();
+    let untolerated = faulty & !all(plan.n) != 0 || plan.place_with(faulty, mistake).is_none();
     if untolerated && mistake == Some(Mistake::FaultyBeforeValue) {
         return Err(23);
     }
-    if value >= span {
+    if value >= plan.span {
         return Err(18);
     }
     if untolerated {
         return Err(23);
     }
     Ok(Sheet {
+        width,
         plan,
         value,
         faulty,
@@ -129,8 +136,8 @@ fn head(bytes: &[u8], mistake: Option<Mistake>) -> Result<Sheet, u8> {
     })
 }
 
-/// A frame line's slot and values, or nothing if it meets 24.
-fn frame(sheet: &Sheet, tree: &Tree, bytes: &[u8]) -> Option<(Slot, Vec<u8>)> {
+/// A frame line's slot and the bytes of its values, or nothing if it meets 24.
+fn frame<'a>(sheet: &Sheet, tree: &Tree, bytes: &'a [u8]) -> Option<(Slot, &'a [u8])> {
     if bytes.len() < 4 {
         return None;
     }
@@ -147,25 +154,30 @@ fn frame(sheet: &Sheet, tree: &Tree, bytes: &[u8]) -> Option<(Slot, Vec<u8>)> {
         .is_none_or(|(before, _)| *before < slot);
     let boards = has(sheet.faulty, sender) && !has(sheet.faulty, receiver);
     let due = tree.due(run as usize, round as usize, sender, receiver);
-    (rising && boards && due).then(|| (slot, bytes[4..].to_vec()))
+    (rising && boards && due).then(|| (slot, &bytes[4..]))
 }
 
 impl Sheet {
     /// The head's bytes.
     pub fn head(&self) -> Vec<u8> {
-        let p = &self.plan;
-        let mut bytes = vec![
-            p.n,
-            p.span,
-            p.default,
-            p.dealer,
-            p.depth,
-            self.value,
-            p.sets.len() as u8,
-        ];
+        let (p, width) = (&self.plan, self.width);
+        let mut bytes = vec![p.n];
+        bytes.extend(width.encode(&[p.span, p.default]));
+        bytes.extend([p.dealer, p.depth]);
+        bytes.extend(width.encode(&[self.value]));
+        bytes.push(p.sets.len() as u8);
         bytes.extend(&p.sets);
         bytes.push(self.faulty);
         bytes
+    }
+
+    /// Changes every value of every frame; one of an odd length has none.
+    pub fn change_values(&mut self, change: impl Fn(Value) -> Value) {
+        for frame in self.frames.values_mut() {
+            let values: Vec<Value> = self.width.decode(frame).into_iter().map(&change).collect();
+            let written = self.width.encode(&values);
+            frame[..written.len()].copy_from_slice(&written);
+        }
     }
 
     /// The lines as bytes, the head first.
@@ -186,8 +198,9 @@ impl Sheet {
 
 /// A sheet with s = 00, good or not, with the one set 00 in its stead; nothing for others and if that is too long.
 pub fn with_set_00(text: &[u8]) -> Option<Vec<u8>> {
-    let no_sets = text.get(12..14)? == b"00" && !text[..12].contains(&b'\n');
-    let longer = [&text[..12], b"0100", &text[14..]].concat();
+    let at = 2 * CURRENT.head().count;
+    let no_sets = text.get(at..at + 2)? == b"00" && !text[..at].contains(&b'\n');
+    let longer = [&text[..at], b"0100", &text[at + 2..]].concat();
     (no_sets && longer.len() <= LONGEST).then_some(longer)
 }
 

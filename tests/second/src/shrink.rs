@@ -64,16 +64,19 @@ fn lower_head(sheet: &mut Sheet, shows: &dyn Fn(&Sheet) -> bool) {
 }
 
 fn clear_values(sheet: &mut Sheet, shows: &dyn Fn(&Sheet) -> bool) {
-    for (slot, values) in sheet.frames.clone() {
-        for (place, value) in values.into_iter().enumerate() {
+    let width = sheet.width;
+    for (slot, frame) in sheet.frames.clone() {
+        for (place, value) in width.decode(&frame).into_iter().enumerate() {
             for low in 0..value.min(2) {
                 attempt(sheet, shows, |s| {
-                    s.frames.get_mut(&slot).unwrap()[place] = low
+                    let frame = s.frames.get_mut(&slot).unwrap();
+                    width.put_number(frame, place * width.bytes(), low)
                 });
             }
         }
         attempt(sheet, shows, |s| {
-            s.frames.get_mut(&slot).unwrap().pop();
+            let left = frame.len().saturating_sub(width.bytes());
+            s.frames.get_mut(&slot).unwrap().truncate(left);
         });
     }
 }

@@ -4,6 +4,8 @@ use crate::places;
 use crate::roots;
 use crate::session::Outcome;
 use crate::sheet::Refusal;
+use crate::wide;
+use crate::width::CURRENT;
 use std::collections::BTreeMap;
 
 /// The refusals that a sheet can meet, rising.
@@ -29,6 +31,8 @@ pub struct Tally {
     /// Accepted sheets that try what roots between runs are worth, and those that break a claim of it.
     pub roots: BTreeMap<&'static str, usize>,
     pub broken: usize,
+    /// Accepted sheets that show each kind of values of two bytes.
+    pub wide: BTreeMap<&'static str, usize>,
     refused: BTreeMap<u8, usize>,
     split: BTreeMap<(u8, u8, usize), usize>,
 }
@@ -52,6 +56,10 @@ impl Tally {
         }
         for (kind, _) in roots::KINDS.iter().filter(|(_, shows)| shows(outcome)) {
             *self.roots.entry(kind).or_default() += 1;
+        }
+        let wide = wide::kinds(outcome.width).iter();
+        for (kind, _) in wide.filter(|(_, shows)| shows(outcome)) {
+            *self.wide.entry(kind).or_default() += 1;
         }
         let holds = roots::CLAIMS.iter().all(|(_, holds)| holds(outcome));
         self.broken += usize::from(!holds);
@@ -78,13 +86,14 @@ impl Tally {
         join(&mut self.no_sets, other.no_sets);
         join(&mut self.places, other.places);
         join(&mut self.roots, other.roots);
+        join(&mut self.wide, other.wide);
         join(&mut self.refused, other.refused);
         join(&mut self.split, other.split);
     }
 
-    /// Whether every number, every kind of unequal roots, of place and of roots between runs, an accepted sheet with no
-    /// sets and one that decides a default other than 0 which nobody told were met, and no other number, no impossible
-    /// roots, no list without a place and no broken claim.
+    /// Whether every number, every kind of unequal roots, of place and of roots between runs, at two bytes every kind of
+    /// their values, an accepted sheet with no sets and one that decides a default other than 0 which nobody told were
+    /// met, and no other number, no impossible roots, no list without a place and no broken claim.
     pub fn full(&self) -> bool {
         self.refused.keys().eq(&NUMBERS)
             && SPLITS.iter().all(|s| self.split.contains_key(s))
@@ -94,6 +103,9 @@ impl Tally {
             && roots::KINDS
                 .iter()
                 .all(|(kind, _)| self.roots.contains_key(kind))
+            && wide::kinds(CURRENT)
+                .iter()
+                .all(|(kind, _)| self.wide.contains_key(kind))
             && !self.no_sets.is_empty()
             && self.shown > 0
             && self.impossible == 0
@@ -126,6 +138,10 @@ impl Tally {
             println!("roots {kind}: {count}");
         }
         println!("roots not worth what is claimed: {}", self.broken);
+        for (kind, _) in wide::kinds(CURRENT) {
+            let count = self.wide.get(kind).copied().unwrap_or(0);
+            println!("{kind}: {count}");
+        }
     }
 }
 

@@ -6,11 +6,17 @@ use second::met::Met;
 use second::record::{Ground, Record};
 use second::script::Act;
 use second::scripts::Script;
-use second::{make, Mistake};
+use second::{make, Mistake, CURRENT};
+
+/// The bytes that are told of an answer and a plan, and then of entries.
+fn parts() -> [usize; 2] {
+    [5 + 36 + 2 * CURRENT.bytes(), 28]
+}
 
 /// The entries of a record as it is told: kind, run, round, level of each board.
 fn entries(told: &[u8]) -> Vec<&[u8]> {
-    told[5 + 38..][..28].chunks(4).collect()
+    let [before, length] = parts();
+    told[before..][..length].chunks(4).collect()
 }
 
 /// Rule G lists the dealer in round 2, at the root.
@@ -23,7 +29,9 @@ fn example_lists_the_dealer() {
     let mut listed = [[0; 4]; 7];
     listed[0] = [1, 1, 2, 1];
     assert_eq!(entries(told(8)), listed);
-    assert_eq!(told(9)[..5], [0, 1, 15, 0, 0]);
+    let decision = CURRENT.encode(&[15]);
+    assert_eq!(told(9)[..2], [0, decision.len() as u8]);
+    assert_eq!(told(9)[2..][..decision.len()], decision);
 }
 
 /// The kept script of the program is the example.
@@ -97,7 +105,7 @@ fn entries_are_written_once() {
 
 fn written_once(before: &[u8], was: &[u8], is: &[u8]) {
     if was != is {
-        let record = &before[5 + 38 + 28..];
+        let record = &before[parts().iter().sum()..];
         let [kind, run, round, level] = *is else {
             panic!("four bytes");
         };
@@ -112,7 +120,8 @@ fn written_once(before: &[u8], was: &[u8], is: &[u8]) {
 #[test]
 fn scripts_tell_hidden_mistakes() {
     let mut met = Met::default();
-    let mut untold: Vec<Mistake> = Mistake::ALL.into_iter().filter(|m| m.hidden()).collect();
+    let mut untold = Mistake::at(CURRENT);
+    untold.retain(|mistake| mistake.hidden());
     assert_eq!(untold.len(), 13);
     for place in 0..600 {
         let script = Script::new(make::own_seed(3, place));
@@ -121,16 +130,17 @@ fn scripts_tell_hidden_mistakes() {
     }
     assert_eq!(untold, []);
     assert_eq!(met.impossible(), [""; 0]);
-    assert!(met.missing().len() < 12, "{:?}", met.missing());
+    let missing = met.missing(CURRENT);
+    assert!(missing.len() < 12, "{missing:?}");
 }
 
 /// A missing count and an answer that a call cannot give are found.
 #[test]
 fn counts_are_judged() {
     let mut met = Met::default();
-    let all = met.missing().len();
+    let all = met.missing(CURRENT).len();
     met.count("receive 14".into());
-    assert_eq!(met.missing().len(), all - 1);
+    assert_eq!(met.missing(CURRENT).len(), all - 1);
     assert_eq!(met.impossible(), [""; 0]);
     met.count("receive 16".into());
     assert_eq!(met.impossible(), ["receive 16"]);

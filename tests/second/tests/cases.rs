@@ -1,7 +1,8 @@
-//! Cases 1 to 10 of the paper, as sheets where they are sheets.
+//! Cases 1 to 10 of the paper, as sheets where they are sheets. Sheets stand here in one-byte values.
 
 use second::bench;
 use second::plan::{admit, first_cover, Plan, Tree};
+use second::widen::{current_printed, current_sheet};
 
 fn plan(n: u8, sets: &[u8], dealer: u8, depth: u8) -> Plan {
     Plan {
@@ -15,11 +16,14 @@ fn plan(n: u8, sets: &[u8], dealer: u8, depth: u8) -> Plan {
 }
 
 fn prints(sheet: &str, printed: &str) {
-    assert_eq!(
-        String::from_utf8(bench(sheet.as_bytes())).unwrap(),
-        printed,
-        "{sheet}"
-    );
+    let sheet = current_sheet(sheet.as_bytes());
+    prints_as_written(&sheet, &current_printed(printed.as_bytes()));
+}
+
+/// The same for a sheet at the width that the programs use.
+fn prints_as_written(sheet: &[u8], printed: &[u8]) {
+    let text = |bytes: &[u8]| String::from_utf8_lossy(bytes).into_owned();
+    assert_eq!(text(&bench(sheet)), text(printed), "{}", text(sheet));
 }
 
 #[test]
@@ -182,8 +186,8 @@ fn kept_cases() {
     for entry in std::fs::read_dir(folder).unwrap() {
         let path = entry.unwrap().path();
         if path.extension().is_some_and(|e| e == "sheet") {
-            let text = |extension| std::fs::read_to_string(path.with_extension(extension));
-            prints(&text("sheet").unwrap(), &text("out").unwrap());
+            let text = |extension| std::fs::read(path.with_extension(extension));
+            prints_as_written(&text("sheet").unwrap(), &text("out").unwrap());
         }
     }
 }
@@ -250,6 +254,6 @@ fn refusals_and_lines() {
     prints("0410000005040102040801\n", "FF160001\n");
     prints("041000000010040102040810\n", "FF120001\n");
     prints("041000000005040102040803\n", "FF170001\n");
-    prints(&"0".repeat(65_537), "FF140000\n");
-    prints(&"0".repeat(65_536), "FF150001\n");
+    prints_as_written(&[b'0'; 65_537], b"FF140000\n");
+    prints_as_written(&[b'0'; 65_536], b"FF150001\n");
 }

@@ -4,8 +4,10 @@ use second::plan::{has, set_of, within};
 use second::sheet::Refusal;
 use second::shrink::shrink;
 use second::tally::{Tally, NUMBERS, SPLITS};
-use second::{bench, bench_with, corpus, make, places, play, print, roots, session, sheet};
-use second::{Line, Mistake, Outcome, Sheet};
+use second::{
+    bench, bench_with, corpus, make, places, play, print, roots, session, sheet, wide, widen,
+};
+use second::{Line, Mistake, Outcome, Sheet, Value, CURRENT};
 use std::collections::BTreeSet;
 
 #[test]
@@ -107,12 +109,17 @@ fn corpus_meets_all_but_the_longest() {
         let some = tally(&|_, result| !result.as_ref().is_ok_and(shows));
         assert!(!some.full(), "roots {kind}");
     }
-    let mut changed = play(b"0410000000050000\n", None);
+    for (kind, shows) in wide::kinds(CURRENT) {
+        let some = tally(&|_, result| !result.as_ref().is_ok_and(shows));
+        assert!(!some.full(), "{kind}");
+    }
+    let no_sets = widen::current_sheet(b"0410000000050000\n");
+    let mut changed = play(&no_sets, None);
     changed.as_mut().unwrap().roots[0][0] = 6;
     let mut some = tally(&|_, _| true);
     some.count(&changed);
     assert!(!some.full(), "a healthy dealer's value is no root");
-    let mut unplaced = play(b"0410000000050000\n", None);
+    let mut unplaced = play(&no_sets, None);
     unplaced.as_mut().unwrap().lines[3].place = None;
     let mut some = tally(&|_, _| true);
     some.count(&unplaced);
@@ -137,7 +144,8 @@ fn made_sheets_agree_and_list_only_faulty_boards() {
             held_first(&outcome, line, seed);
         }
         detected_while_unequal(&outcome, seed);
-        let hidden: Vec<Mistake> = Mistake::ALL.into_iter().filter(|m| m.hidden()).collect();
+        let mut hidden = Mistake::at(CURRENT);
+        hidden.retain(|mistake| mistake.hidden());
         let some = hidden.iter().skip(seed as usize % 4).step_by(4);
         some.for_each(|m| assert_eq!(bench_with(&text, *m), print(&play(&text, None))));
     }
@@ -233,15 +241,14 @@ fn made_sheets_with_defaults() {
 /// With the default and 0 swapped in the head and in all values, the decisions are swapped and the lists are the same.
 fn swapped_with_zero(sheet: &Sheet, outcome: &Outcome, seed: u64) {
     let default = sheet.plan.default;
-    let swap = |value: u8| match value {
+    let swap = |value: Value| match value {
         0 => default,
         _ if value == default => 0,
         _ => value,
     };
     let mut other = sheet.clone();
     (other.plan.default, other.value) = (0, swap(sheet.value));
-    let values = other.frames.values_mut().flatten();
-    values.for_each(|v| *v = swap(*v));
+    other.change_values(swap);
     let mut lines = session::play_sheet(&other, None).lines;
     lines.iter_mut().for_each(|l| l.decision = swap(l.decision));
     assert_eq!(lines, outcome.lines, "seed {seed}");
@@ -276,7 +283,7 @@ fn shrinking_ends_with_no_sets() {
     let kept = corpus::load();
     let (_, text) = kept.iter().find(|(name, _)| name == "case-7").unwrap();
     let small = shrink(sheet::read(text).unwrap(), &|_| true);
-    assert_eq!(small.write(), b"0402000000000000\n");
+    assert_eq!(small.write(), widen::current_sheet(b"0402000000000000\n"));
 }
 
 /// Roots that differ in a full tree, or with too few faulty boards, are counted as impossible.

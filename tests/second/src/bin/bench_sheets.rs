@@ -8,6 +8,7 @@
 use second::make;
 use second::plan::{Plan, Set};
 use second::prng::Prng;
+use second::CURRENT;
 
 fn main() {
     let args: Vec<String> = std::env::args().skip(1).collect();
@@ -45,7 +46,7 @@ fn sheet(depth: u8, count: u64, seed: u64, every: bool) -> Vec<u8> {
     };
     // The dealer is faulty in every other sheet.
     let faulty = if seed % 2 == 0 { 0b000111 } else { 0b001110 };
-    make::lied_to(plan, faulty, &mut rng).write()
+    make::lied_to(CURRENT, plan, faulty, &mut rng).write()
 }
 
 /// A set beside the large one, so that no three cover all boards. Board 6 is in none; if the large set has four boards,

@@ -8,7 +8,7 @@ use second::make::own_seed;
 use second::met::Met;
 use second::script::{Act, Step};
 use second::scripts::Script;
-use second::Mistake;
+use second::{Mistake, CURRENT};
 use std::io::{Read, Write};
 use std::process::{exit, ChildStdin, Command, Stdio};
 use std::sync::mpsc::{sync_channel, SyncSender};
@@ -73,7 +73,7 @@ fn compare(path: &str, count: u64, seed: u64) -> bool {
     met.0
         .iter()
         .for_each(|(name, count)| println!("{name}: {count}"));
-    met.missing()
+    met.missing(CURRENT)
         .iter()
         .for_each(|name| println!("NOT MET: {name}"));
     met.impossible()
@@ -83,7 +83,7 @@ fn compare(path: &str, count: u64, seed: u64) -> bool {
         .iter()
         .for_each(|mistake| println!("NOT TOLD: {mistake:?}"));
     println!("calls: {count} scripts, {steps} steps, {differences} scripts differ");
-    let full = met.missing().is_empty() && met.impossible().is_empty();
+    let full = met.missing(CURRENT).is_empty() && met.impossible().is_empty();
     differences == 0 && full && untold.is_empty() && status.success()
 }
 
@@ -94,7 +94,8 @@ fn make_all(
     mut stdin: ChildStdin,
     made: SyncSender<Script>,
 ) -> Vec<Mistake> {
-    let mut untold: Vec<Mistake> = Mistake::ALL.into_iter().filter(|m| m.hidden()).collect();
+    let mut untold = Mistake::at(CURRENT);
+    untold.retain(|mistake| mistake.hidden());
     for place in 0..count {
         let script = Script::new(own_seed(seed, place));
         untold.retain(|mistake| !script.tells(*mistake));
@@ -122,13 +123,15 @@ fn check(script: &Script, stdout: &mut impl Read) -> Result<(), String> {
     first
 }
 
-/// Where two replies differ: the answer has 5 bytes, the record 38 for its plan, 28 for its entries and 7.
+/// Where two replies differ: the answer has 5 bytes, the record 36 and two values for its plan, 28 for its entries, then
+/// 6 and a value.
 fn difference(place: usize, step: &Step, ours: &[u8], theirs: &[u8]) -> String {
     let places: Vec<usize> = (0..ours.len()).filter(|i| ours[*i] != theirs[*i]).collect();
     let step = match &step.act {
         Act::ChangeCells(..) => "ChangeCells".into(),
         _ => format!("{step:?}"),
     };
-    let (ours, theirs) = (&ours[..78], &theirs[..78]);
+    let length = 5 + 36 + 28 + 6 + 3 * CURRENT.bytes();
+    let (ours, theirs) = (&ours[..length], &theirs[..length]);
     format!("step {place}: {step}: bytes {places:?}\nsecond  {ours:02X?}\nprogram {theirs:02X?}")
 }

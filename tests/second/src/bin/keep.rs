@@ -4,7 +4,7 @@
 use second::sheet::read;
 use second::shrink::shrink;
 use second::tally::{NUMBERS, SPLITS};
-use second::{bench_with, corpus, make, play, print, session, Mistake, Sheet};
+use second::{bench_with, corpus, make, play, print, session, Mistake, Sheet, CURRENT};
 use std::collections::BTreeMap;
 
 /// How many candidates for one name are made smaller.
@@ -49,7 +49,8 @@ fn names(text: &[u8]) -> Vec<String> {
 }
 
 fn names_accepted(sheet: &Sheet) -> Vec<String> {
-    let mut names: Vec<String> = Mistake::ALL.map(|m| format!("mistake-{m:?}")).to_vec();
+    let mistakes = Mistake::at(CURRENT).into_iter();
+    let mut names: Vec<String> = mistakes.map(|m| format!("mistake-{m:?}")).collect();
     names.extend(SPLITS.map(|(b, n, run)| format!("unequal-b{b}-n{n}-run{run}")));
     names.retain(|name| shows(name, sheet));
     names
@@ -58,7 +59,7 @@ fn names_accepted(sheet: &Sheet) -> Vec<String> {
 /// Whether an accepted sheet shows what the name says.
 fn shows(name: &str, sheet: &Sheet) -> bool {
     let text = sheet.write();
-    let mistake = Mistake::ALL
+    let mistake = Mistake::at(CURRENT)
         .into_iter()
         .find(|m| format!("mistake-{m:?}") == name);
     if let Some(mistake) = mistake {

@@ -1,6 +1,6 @@
 //! play [MISTAKE]   the bench as this crate has it: a sheet on standard input, printed lines out
 
-use second::{bench, bench_with, Mistake};
+use second::{bench, bench_with, Mistake, CURRENT};
 use std::io::{Read, Write};
 
 fn main() {
@@ -9,7 +9,8 @@ fn main() {
     let printed = match std::env::args().nth(1) {
         None => bench(&sheet),
         Some(name) => {
-            let named = Mistake::ALL.into_iter().find(|m| format!("{m:?}") == name);
+            let mut mistakes = Mistake::at(CURRENT).into_iter();
+            let named = mistakes.find(|m| format!("{m:?}") == name);
             bench_with(&sheet, named.expect("the name of a mistake"))
         }
     };

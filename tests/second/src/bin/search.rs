@@ -4,6 +4,7 @@
 use second::plan::{all, set_of, Plan};
 use second::prng::Prng;
 use second::search::{climb, sheet};
+use second::CURRENT;
 use std::io::Write;
 
 /// Changes tried before the climb starts anew with other sets.
@@ -24,7 +25,7 @@ fn main() {
             continue;
         }
         if let Some(lies) = climb(&plan, all(size), run as usize, TRIES, &mut rng) {
-            let found = sheet(&plan, all(size), &lies, 0, run as u8);
+            let found = sheet(CURRENT, &plan, all(size), &lies, 0, run as u8);
             return std::io::stdout()
                 .write_all(&found.write())
                 .expect("an open output");
