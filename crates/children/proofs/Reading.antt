@@ -6,6 +6,7 @@ use mathlib.Core.Bool.{Bool, true, false, _||_}
 use mathlib.Core.List.{List}
 use native.Mathlib.Omega.{arith}
 use lib.ListN.{getD, set, replicate}
+use Rattle.codec.specs.Codec.{current, blank}
 use Rattle.sets.specs.Sets.{member}
 use Rattle.sets.proofs.Tests.{or-left}
 use Rattle.plan.specs.declared.plan.Plan.{Plan}
@@ -25,7 +26,7 @@ pub record Reads (n s from c at : ℕ) (values cells : List ℕ) : Type 0 where
   pub values-are : values ≡ childTable (standingFrom cells from s) s c
 
 module _ {n s from : ℕ} {cells : List ℕ} where
-  pub reads-start : Reads n s from 0 from (replicate 8 255) cells
+  pub reads-start : Reads n s from 0 from (replicate 8 (blank current)) cells
   reads-start = record { inside = omega arith; number = omega (arith, outside-zero s); values-are = sym (table-zero (standingFrom cells from s) s) }
 
   module _ {c at at′ : ℕ} {values values′ : List ℕ} (r : Reads n s from c at values cells) (l : c < n) where

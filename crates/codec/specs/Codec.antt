@@ -20,7 +20,7 @@ valueSize one = 1
 valueSize two = 2
 
 -- 01: "A place with no value yet, or no node, holds FF"; in two bytes it holds FFFF.
-unfoldable pub blank : Width → ℕ
+abbrev pub blank : Width → ℕ
 blank one = 0xFF
 blank two = 0xFFFF
 

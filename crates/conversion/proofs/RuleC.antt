@@ -7,6 +7,7 @@ use mathlib.Core.List.{List, [], _∷_, List·Memᴰ, List·Memᴰ·head, List·
 use mathlib.Core.Option.{Option}
 use native.Mathlib.Omega.{arith}
 use lib.ListN.{length, set}
+use Rattle.codec.specs.Codec.{current, blank}
 use Rattle.sets.specs.Sets.{member}
 use Rattle.sets.proofs.Tests.{cases}
 use Rattle.plan.specs.declared.plan.Plan.{Plan}
@@ -72,7 +73,7 @@ module _ (p : Plan) (i : ℕ) (cells : List ℕ) where
           let u = node-under p i k (suc (rounds p .0 - suc (length α))) α v (omega arith) in
           settled-done p i ld (under-trans u (down t l o here)) (root-labelled p) cells r
 
-      module _ (good : judged p .number ≡ 0) (m : p .span ≤ 255) where
+      module _ (good : judged p .number ≡ 0) (m : p .span ≤ blank current) where
         passes-same : (k : ℕ) (α : Label) (list : List Slot) → List·Memᴰ α (inner p i k)
             → passesBy p (settledAll p i cells) α list ≡ passes p α (byResolving p i cells α) list
         unfolding passesBy passes worth

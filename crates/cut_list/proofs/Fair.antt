@@ -9,7 +9,7 @@ use native.Mathlib.Omega.{arith}
 use lib.Dec.{eqb, ltb}
 use lib.ListN.{length, replicate, drop}
 use borrow.Author.Tests.{eqb-true, ltb-true}
-use Rattle.codec.specs.Codec.{blank, encode, decode, numberAt}
+use Rattle.codec.specs.Codec.{encode, decode, numberAt}
 use Rattle.sets.specs.Search.{first, any, count}
 use Rattle.sets.specs.Tabulate.{tabulate}
 use Rattle.sets.specs.Sets.{member, union, insert, within, boards, setOf, size}
@@ -86,7 +86,7 @@ pub record Computed : Type 0 where
   pub stays-behind : state staysSetting staysCalls 3 .rec .run .0 ≡ 2
 
 pub computed : Computed
-unfolding encode decode numberAt first any count member union insert within boards setOf size holder isSome tolerated strays covers thirdPlace secondPlace firstPlace covered listed largest height isCut rounds runs firstRound hasRound ceilDiv covering admitting andThen isDepth judgeSettings planning planOn judged occurs mask last childrenFrom children childrenOf levelSize levelStart cellCount ordinal rank place blank cellAt store default value read filter internal nodes inner carried sent due frame only same vote tabulate resolve resolveRoot explained byCell byResolving entryAt hasEntry levelOf join asSet passes maskBoard detectG detectAllG detectC detectAllC detectLevels fill counted receive fillMissing copyOwn gather rootOnly nextRound convert runEnded close isTaken judgeNumber judgeOther judgeBoard judgeCells goodPlan goodNumber goodOther goodPosition goodMarks goodEntry goodEntries goodDecision goodRecord judgeRecord judgeOpen freshRecord voidRecord judgeBeginning beginning dealing judgeReceiving taking receiving frameOf wireOf judgeSending sending closedValues closing deciding begun answers after caller keeper leaves state afterOne sameList everywhere somewhere alike writes hands truthful lacks fairCall fairCheck carriesCall carriesCheck root listAfter cutSetting cutCalls cutBefore staysSetting staysCalls staysBefore staysLater
+unfolding encode decode numberAt first any count member union insert within boards setOf size holder isSome tolerated strays covers thirdPlace secondPlace firstPlace covered listed largest height isCut rounds runs firstRound hasRound ceilDiv covering admitting andThen isDepth judgeSettings planning planOn judged occurs mask last childrenFrom children childrenOf levelSize levelStart cellCount ordinal rank place cellAt store default value read filter internal nodes inner carried sent due frame only same vote tabulate resolve resolveRoot explained byCell byResolving entryAt hasEntry levelOf join asSet passes maskBoard detectG detectAllG detectC detectAllC detectLevels fill counted receive fillMissing copyOwn gather rootOnly nextRound convert runEnded close isTaken judgeNumber judgeOther judgeBoard judgeCells goodPlan goodNumber goodOther goodPosition goodMarks goodEntry goodEntries goodDecision goodRecord judgeRecord judgeOpen freshRecord voidRecord judgeBeginning beginning dealing judgeReceiving taking receiving frameOf wireOf judgeSending sending closedValues closing deciding begun answers after caller keeper leaves state afterOne sameList everywhere somewhere alike writes hands truthful lacks fairCall fairCheck carriesCall carriesCheck root listAfter cutSetting cutCalls cutBefore staysSetting staysCalls staysBefore staysLater
 computed = record {
   accepted = refl;
   cut = refl;

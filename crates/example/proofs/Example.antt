@@ -8,7 +8,7 @@ use native.Mathlib.Omega.{arith}
 use lib.Dec.{eqb, ltb}
 use lib.ListN.{length, replicate}
 use borrow.Author.Tests.{ltb-true}
-use Rattle.codec.specs.Codec.{blank, encode, decode, numberAt}
+use Rattle.codec.specs.Codec.{encode, decode, numberAt}
 use Rattle.sets.specs.Search.{first, any, count}
 use Rattle.sets.specs.Tabulate.{tabulate}
 use Rattle.sets.specs.Sets.{member, union, insert, within, boards, setOf, size}
@@ -67,7 +67,7 @@ pub record Computed : Type 0 where
   pub cells2 : state exampleSetting exampleCalls 2 .cells ≡ (5 ∷ replicate 15 255) ++ (7 ∷ [])
 
 pub computed : Computed
-unfolding encode decode numberAt first any count member union insert within boards setOf size holder isSome tolerated strays covers thirdPlace secondPlace firstPlace covered listed largest height isCut rounds runs firstRound hasRound covering admitting andThen isDepth judgeSettings planning planOn judged occurs mask last levelSize levelStart cellCount ordinal rank place blank cellAt store default value read filter internal nodes inner carried sent due frame only same vote tabulate resolve resolveRoot explained byCell byResolving entryAt hasEntry levelOf join asSet passes maskBoard detectG detectAllG detectC detectAllC detectLevels fill counted receive fillMissing copyOwn gather rootOnly nextRound convert runEnded close isTaken judgeNumber judgeOther judgeBoard judgeCells goodPlan goodNumber goodOther goodPosition goodMarks goodEntry goodEntries goodDecision goodRecord judgeRecord judgeOpen freshRecord voidRecord judgeBeginning beginning dealing judgeReceiving taking receiving frameOf wireOf judgeSending sending closedValues closing deciding begun answers after caller keeper leaves state afterOne sameList exampleSetting exampleAhead exampleRest exampleCalls said everywhere somewhere alike writes hands truthful lacks fairCall fairCheck carriesCall carriesCheck exampleAnswers
+unfolding encode decode numberAt first any count member union insert within boards setOf size holder isSome tolerated strays covers thirdPlace secondPlace firstPlace covered listed largest height isCut rounds runs firstRound hasRound covering admitting andThen isDepth judgeSettings planning planOn judged occurs mask last levelSize levelStart cellCount ordinal rank place cellAt store default value read filter internal nodes inner carried sent due frame only same vote tabulate resolve resolveRoot explained byCell byResolving entryAt hasEntry levelOf join asSet passes maskBoard detectG detectAllG detectC detectAllC detectLevels fill counted receive fillMissing copyOwn gather rootOnly nextRound convert runEnded close isTaken judgeNumber judgeOther judgeBoard judgeCells goodPlan goodNumber goodOther goodPosition goodMarks goodEntry goodEntries goodDecision goodRecord judgeRecord judgeOpen freshRecord voidRecord judgeBeginning beginning dealing judgeReceiving taking receiving frameOf wireOf judgeSending sending closedValues closing deciding begun answers after caller keeper leaves state afterOne sameList exampleSetting exampleAhead exampleRest exampleCalls said everywhere somewhere alike writes hands truthful lacks fairCall fairCheck carriesCall carriesCheck exampleAnswers
 computed = record {
   accepted = refl;
   tolerable = refl;

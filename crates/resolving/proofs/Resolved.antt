@@ -8,7 +8,7 @@ use mathlib.Core.List.{List, [], _∷_}
 use mathlib.Core.Option.{Option, some, none, Option·getD}
 use native.Mathlib.Omega.{arith}
 use lib.ListN.{getD}
-use Rattle.codec.specs.Codec.{blank}
+use Rattle.codec.specs.Codec.{current, blank}
 use Rattle.sets.specs.Sets.{member}
 use Rattle.plan.specs.declared.plan.Plan.{Plan}
 use Rattle.plan.specs.Values.{default}
@@ -31,7 +31,7 @@ module _ (p : Plan) (i : ℕ) (cells : List ℕ) (α : Label) where
   resolve-leaf zero e = refl
   resolve-leaf (suc left) e = rw e refl
 
-  pub resolve-inner : (left : ℕ) → p .n ≤ 8 → p .span ≤ 255 → internal p i α ≡ true
+  pub resolve-inner : (left : ℕ) → p .n ≤ 8 → p .span ≤ blank current → internal p i α ≡ true
       → voted p (mask α) (childTable (λ c. resolve p i cells left (c ∷ α)) (mask α) (p .n)) ≡ worth (resolve p i cells (suc left) α)
   unfolding resolve
   resolve-inner left b m e =
@@ -44,22 +44,22 @@ module _ (p : Plan) (i : ℕ) (cells : List ℕ) (α : Label) where
       ∙ rw e refl
 
 -- The root: none is the default.
-none-root : (p : Plan) (s : default p < p .span) (o : Option ℕ) (v : ℕ) → p .span ≤ 255 → Small p s o → v ≡ worth o → v ≡ 255 → default p ≡ Option·getD o (default p)
+none-root : (p : Plan) (s : default p < p .span) (o : Option ℕ) (v : ℕ) → p .span ≤ blank current → Small p s o → v ≡ worth o → v ≡ blank current → default p ≡ Option·getD o (default p)
 unfolding worth
 none-root p s none v m h e z = refl
 none-root p s (some w) v m h e z = let k : v ≡ w = e in absurd (omega (arith, h w refl))
 
-some-root : (p : Plan) (o : Option ℕ) (v : ℕ) → v ≡ worth o → v ≢ 255 → v ≡ Option·getD o (default p)
-unfolding worth blank
+some-root : (p : Plan) (o : Option ℕ) (v : ℕ) → v ≡ worth o → v ≢ blank current → v ≡ Option·getD o (default p)
+unfolding worth
 some-root p none v e ne = absurd (ne e)
 some-root p (some w) v e ne = e
 
 module _ (p : Plan) (i : ℕ) (cells : List ℕ) (v : ℕ) (e : v ≡ worth (resolve p i cells (rounds p .0 - 1) (p .dealer ∷ []))) where
-  pub root-none : p .span ≤ 255 → default p < p .span → v ≡ 255 → default p ≡ resolveRoot p i cells
+  pub root-none : p .span ≤ blank current → default p < p .span → v ≡ blank current → default p ≡ resolveRoot p i cells
   unfolding resolveRoot
   root-none m s z =
       none-root p s (resolve p i cells (rounds p .0 - 1) (p .dealer ∷ [])) v m (resolve-small p s i cells (rounds p .0 - 1) (p .dealer ∷ [])) e z
 
-  pub root-some : v ≢ 255 → v ≡ resolveRoot p i cells
+  pub root-some : v ≢ blank current → v ≡ resolveRoot p i cells
   unfolding resolveRoot
   root-some ne = some-root p (resolve p i cells (rounds p .0 - 1) (p .dealer ∷ [])) v e ne

@@ -15,6 +15,7 @@ use lib.ListN.{length, getD, set, replicate}
 use mir.Syntax.{w8, w64}
 use mir.Val.{Fits}
 use borrow.Author.Tests.{ltb-true, ltb-false, lt-ltb, le-ltb}
+use Rattle.codec.specs.Codec.{current, blank}
 use Rattle.sets.specs.Sets.{member, insert}
 use Rattle.sets.proofs.Tests.{cases}
 use Rattle.plan.specs.declared.plan.Plan.{Plan}
@@ -170,7 +171,7 @@ module _ {p : Plan} {holders : List ℕ} {i : ℕ} {before : List ℕ} (k : Conv
   abbrev found : ℕ → Option ℕ
   found q = resolve p i before (left - 1) (q ∷ α)
 
-  pub filling-start : At 0 (index * (p .n - level)) (replicate 8 255) before
+  pub filling-start : At 0 (index * (p .n - level)) (replicate 8 (blank current)) before
   unfolding childIndex
   filling-start = record {
     inside = omega arith;
@@ -292,8 +293,8 @@ module _ {p : Plan} {holders : List ℕ} {i : ℕ} {before : List ℕ} (k : Conv
     unfolding settledAll
     root-cells = f .cells-are ∙ ap₂ (λ x β. settled p i (x - 1) β before) e root-is
 
-    pub none-roots : {d : ℕ} → v ≡ 255 → d ≡ default p → Roots p i d before after
+    pub none-roots : {d : ℕ} → v ≡ blank current → d ≡ default p → Roots p i d before after
     none-roots z x = record { root-is = x ∙ root-none p i before v root-value (k .most-values) (plan-default p (k .accepted)) z; cells-are = root-cells }
 
-    pub some-roots : v ≢ 255 → Roots p i v before after
+    pub some-roots : v ≢ blank current → Roots p i v before after
     some-roots ne = record { root-is = root-some p i before v root-value ne; cells-are = root-cells }

@@ -4,6 +4,7 @@ use mathlib.Core.Path.{_≡_}
 use mathlib.Core.Logic.{_≢_}
 use mathlib.Core.List.{List}
 use lib.ListN.{length}
+use Rattle.codec.specs.Codec.{current, blank}
 use Rattle.holders.specs.Holders.{holderTable}
 use Rattle.plan.specs.declared.plan.Plan.{Plan}
 use Rattle.plan.specs.Calls.{judged}
@@ -27,7 +28,7 @@ pub record Convertible (p : Plan) (holders : List ℕ) (i : ℕ) (cells : List �
   pub some-round : 1 ≤ rounds p .0
   pub most-rounds : rounds p .0 ≤ p .n
   pub table : holders ≡ holderTable (listed p)
-  pub most-values : p .span ≤ 255
+  pub most-values : p .span ≤ blank current
   pub room : cellCount (p .n) ≤ length cells
 
 -- Node number `index` of a level.

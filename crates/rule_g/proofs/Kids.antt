@@ -89,7 +89,7 @@ module _ {p : Plan} {holders : List ℕ} {level node start : ℕ} {cells : List 
   pub explained-kids : (list : List Slot) → explainedBy p (node % 128) (childTable (kid p (node % 128) from cells) (node % 128) (p .n)) (asSet list) ≡ explained p α (byCell p cells α) list
   explained-kids list =
       ap₂ (λ s t. explainedBy p s t (asSet list)) (v .is-node .boards) kids-table
-      ∙ sym (explained-table p α (byCell p cells α) list (v .accepted) (v .span-byte) (v .held) (label-below (p .n) (p .dealer) level α (v .dealer-below) label))
+      ∙ sym (explained-table p α (byCell p cells α) list (v .accepted) (v .most-values) (v .held) (label-below (p .n) (p .dealer) level α (v .dealer-below) label))
 
 -- At place i of a list of internal nodes of the level before the round's.
 pub visiting : {p : Plan} {holders : List ℕ} {board : ℕ} {k : Round} → Standing p holders board k → p .span ≤ 255
@@ -101,7 +101,7 @@ visiting {p = p} {k = k} s b nodes ns held i start cells h e room = record {
   some-board = s .some-board;
   dealer-below = s .dealer-below;
   level-below = ns .level-below;
-  span-byte = b;
+  most-values = b;
   tabled = tabled s;
   is-node = ns .are i h;
   held = held i h;

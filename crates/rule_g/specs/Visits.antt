@@ -6,6 +6,7 @@ use mathlib.Core.Bool.{true, false}
 use mathlib.Core.List.{List}
 use mathlib.Core.Option.{Option, some}
 use lib.ListN.{length, getD}
+use Rattle.codec.specs.Codec.{current, blank}
 use Rattle.sets.specs.Sets.{member}
 use Rattle.sets.specs.Structure.{tolerated}
 use Rattle.plan.specs.declared.plan.Plan.{Plan}
@@ -38,7 +39,7 @@ pub record Visit (p : Plan) (holders : List ℕ) (level node start : ℕ) (cells
   pub some-board : 1 ≤ p .n
   pub dealer-below : p .dealer < p .n
   pub level-below : level < p .n
-  pub span-byte : p .span ≤ 255
+  pub most-values : p .span ≤ blank current
   pub tabled : Tabled p holders
   pub is-node : IsNode p level node
   pub held : tolerated (listed p) (mask (nodeAt p level node)) ≡ true

@@ -9,6 +9,7 @@ use mathlib.Core.Option.{Option, some}
 use native.Mathlib.Omega.{arith}
 use lib.Dec.{eqb, ltb}
 use borrow.Author.Tests.{eqb-true, ltb-true, lt-ltb}
+use Rattle.codec.specs.Codec.{current, blank}
 use Rattle.sets.specs.Search.{any}
 use Rattle.sets.specs.Sets.{member, setOf}
 use Rattle.sets.specs.Only.{same}
@@ -44,11 +45,11 @@ tableOf p α f = childTable f (mask α) (p .n)
 
 module _ (p : Plan) (α : Label) (f : ℕ → Option ℕ) (b : p .n ≤ 8) where
   -- A child is worth v by the table exactly if it is by f.
-  worth-at : (v c : ℕ) → v ≢ 255 → c < p .n → occurs c α ≡ false → eqb (at (tableOf p α f) c) v ≡ same (f c) (some v)
+  worth-at : (v c : ℕ) → v ≢ blank current → c < p .n → occurs c α ≡ false → eqb (at (tableOf p α f) c) v ≡ same (f c) (some v)
   worth-at v c ne l e =
       ap (λ x. eqb x v) (table-at f (mask α) (p .n) c b l (mask-member c α ∙ e)) ∙ sym (same-worth (f c) v ne)
 
-  agreeing-table : (v : ℕ) → v ≢ 255 → setOf (agrees α f v) (p .n) ≡ agreeing (p .n) (mask α) (tableOf p α f) v
+  agreeing-table : (v : ℕ) → v ≢ blank current → setOf (agrees α f v) (p .n) ≡ agreeing (p .n) (mask α) (tableOf p α f) v
   unfolding agreeing
   agreeing-table v ne =
       let g : ℕ → Bool = λ c. not (member c (mask α)) && eqb (at (tableOf p α f) c) v in
@@ -57,7 +58,7 @@ module _ (p : Plan) (α : Label) (f : ℕ → Option ℕ) (b : p .n ≤ 8) where
       (λ e. rw (mask-member c α, e))
       (λ e. rw (mask-member c α, e) (sym (worth-at v c ne l e))))
 
-  dissenting-table : (list v : ℕ) → v ≢ 255 → setOf (dissents α f list v) (p .n) ≡ dissenting (p .n) (mask α) (tableOf p α f) v list
+  dissenting-table : (list v : ℕ) → v ≢ blank current → setOf (dissents α f list v) (p .n) ≡ dissenting (p .n) (mask α) (tableOf p α f) v list
   unfolding dissenting
   dissenting-table list v ne =
       let g : ℕ → Bool = λ c. (not (member c (mask α)) && not (eqb (at (tableOf p α f) c) v)) || member c list in
@@ -67,7 +68,7 @@ module _ (p : Plan) (α : Label) (f : ℕ → Option ℕ) (b : p .n ≤ 8) where
       (λ e. rw (mask-member c α, e) (ap (λ x. not x || member c list) (sym (worth-at v c ne l e)))))
 
   -- Resolving. What the children are worth needs no bound: what is no value below m gets no vote.
-  pub vote-table : p .span ≤ 255 → worth (vote p α f) ≡ voted p (mask α) (childTable f (mask α) (p .n))
+  pub vote-table : p .span ≤ blank current → worth (vote p α f) ≡ voted p (mask α) (childTable f (mask α) (p .n))
   unfolding vote voted elected
   vote-table m =
       ap worth (only-same (λ v. not (tolerated (listed p) (setOf (agrees α f v) (p .n)))) (elected p (mask α) (tableOf p α f)) (p .span)
@@ -78,7 +79,7 @@ abbrev fits : Plan → Label → (ℕ → Option ℕ) → ℕ → ℕ → Bool
 fits p α f list v = tolerated (listed p) (setOf (dissents α f list v) (p .n))
 
 module _ (p : Plan) (α : Label) (f : ℕ → Option ℕ) (list : ℕ) where
-  module _ (b : p .n ≤ 8) (m : p .span ≤ 255) where
+  module _ (b : p .n ≤ 8) (m : p .span ≤ blank current) where
     -- The same by the table.
     fits-table : (v : ℕ) → v < p .span → tolerated (listed p) (dissenting (p .n) (mask α) (tableOf p α f) v list) ≡ fits p α f list v
     fits-table v l = ap (tolerated (listed p)) (sym (dissenting-table p α f b list v (λ z. omega arith)))
@@ -122,7 +123,7 @@ module _ (p : Plan) (α : Label) (f : ℕ → Option ℕ) (list : ℕ) where
       (or-l (not (occurs i α) && not (same (f i) (some v))) (member i list) x))))
 
 -- Both rules: it is enough to try the children's own values.
-pub explained-table : (p : Plan) (α : Label) (f : ℕ → Option ℕ) (list : List Slot) → judged p .number ≡ 0 → p .span ≤ 255
+pub explained-table : (p : Plan) (α : Label) (f : ℕ → Option ℕ) (list : List Slot) → judged p .number ≡ 0 → p .span ≤ blank current
     → tolerated (listed p) (mask α) ≡ true → ((i : ℕ) → occurs i α ≡ true → i < p .n)
     → explained p α f list ≡ explainedBy p (mask α) (childTable f (mask α) (p .n)) (asSet list)
 unfolding explained explainedBy

@@ -11,7 +11,7 @@ use lib.Dec.{eqb}
 use lib.ListN.{length, set, replicate, length-set}
 use lib.Seq.{getD-set-same, getD-set-other}
 use borrow.Author.Tests.{eqb-true, eqb-false, ne-eqb}
-use Rattle.codec.specs.Codec.{blank}
+use Rattle.codec.specs.Codec.{current, blank}
 use Rattle.sets.specs.Sets.{member}
 use Rattle.sets.specs.Only.{same}
 use Rattle.sets.proofs.Tests.{cases}
@@ -20,8 +20,8 @@ use Rattle.voting.specs.Tables.{at}
 
 module _ (f : ℕ → Option ℕ) (s : ℕ) where
   -- No board yet: FF everywhere.
-  pub table-zero : childTable f s 0 ≡ replicate 8 255
-  unfolding childTable blank
+  pub table-zero : childTable f s 0 ≡ replicate 8 (blank current)
+  unfolding childTable
   table-zero = refl
 
   table-in : (k : ℕ) → member k s ≡ false → childTable f s (suc k) ≡ set (childTable f s k) k (worth (f k))
@@ -70,7 +70,7 @@ table-same f g s (suc k) h =
     ∙ sym (table-in g s k e))
 
 -- A child worth v has v in the table, for v other than FF.
-pub same-worth : (o : Option ℕ) (v : ℕ) → v ≢ 255 → same o (some v) ≡ eqb (worth o) v
-unfolding same worth blank
-same-worth none v ne = sym (ne-eqb 255 v (λ e. ne (sym e)))
+pub same-worth : (o : Option ℕ) (v : ℕ) → v ≢ blank current → same o (some v) ≡ eqb (worth o) v
+unfolding same worth
+same-worth none v ne = sym (ne-eqb (blank current) v (λ e. ne (sym e)))
 same-worth (some w) v ne = refl

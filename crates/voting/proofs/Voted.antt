@@ -9,7 +9,7 @@ use mathlib.Core.Option.{Option, some, none}
 use native.Mathlib.Omega.{arith}
 use lib.Dec.{eqb, ltb}
 use borrow.Author.Tests.{eqb-true, eqb-false, ltb-true, lt-ltb}
-use Rattle.codec.specs.Codec.{blank}
+use Rattle.codec.specs.Codec.{current, blank}
 use Rattle.sets.specs.Search.{any}
 use Rattle.sets.specs.Sets.{member}
 use Rattle.sets.specs.Only.{only}
@@ -67,9 +67,9 @@ module _ (p : Plan) (s : ℕ) (values : List ℕ) where
   -- Of the children below c: the value that those electing one agree on, FF if there is none.
   pub record Leading (c found : ℕ) : Type 0 where
     pub agreed : (j : ℕ) → j < c → electing j ≡ true → at values j ≡ found
-    pub value : found ≢ 255 → (found < p .span) × (elected p s values found ≡ true)
+    pub value : found ≢ blank current → (found < p .span) × (elected p s values found ≡ true)
 
-  pub leading-start : Leading 0 255
+  pub leading-start : Leading 0 (blank current)
   leading-start = record { agreed = λ j l t. absurd (omega arith); value = λ ne. absurd (ne refl) }
 
   pub leading-skip : (c found : ℕ) → Leading c found → electing c ≡ false → Leading (c + 1) found
@@ -92,16 +92,16 @@ module _ (p : Plan) (s : ℕ) (values : List ℕ) where
   }
 
   -- Child c elects another.
-  pub leading-two : (c found : ℕ) → Leading c found → electing c ≡ true → found ≢ 255 → found ≢ at values c → 255 ≡ voted p s values
-  unfolding voted worth blank
+  pub leading-two : (c found : ℕ) → Leading c found → electing c ≡ true → found ≢ blank current → found ≢ at values c → blank current ≡ voted p s values
+  unfolding voted worth
   leading-two c found h t ne other =
       let (l, e) = h .value ne in
       let (l′, e′) = electing-value c t in
       rw (only-two (elected p s values) (p .span) found (at values c) l l′ (λ z. other (sym z)) e e′)
 
-  module _ (m : p .span ≤ 255) where
+  module _ (m : p .span ≤ blank current) where
     -- Child c elects the first value, or the same one.
-    pub leading-more : (c found : ℕ) → Leading c found → electing c ≡ true → (found ≢ 255 → found ≡ at values c) → Leading (c + 1) (at values c)
+    pub leading-more : (c found : ℕ) → Leading c found → electing c ≡ true → (found ≢ blank current → found ≡ at values c) → Leading (c + 1) (at values c)
     leading-more c found h t e = record {
       agreed = λ j l tj.
           cases (eqb j c)
@@ -114,13 +114,13 @@ module _ (p : Plan) (s : ℕ) (values : List ℕ) where
 
     -- All children have been asked.
     pub leading-end : (c found : ℕ) → c ≡ p .n → Leading c found → found ≡ voted p s values
-    unfolding voted worth blank
+    unfolding voted worth
     leading-end c found all h =
-        cases (eqb found 255)
+        cases (eqb found (blank current))
         (λ q. rw (only-none (elected p s values) (p .span) (λ v l. is-false (elected p s values v) (λ t.
         let (j, lj, tj, z) = elected-child v l t in
-        omega (arith, h .agreed j (omega arith) tj, eqb-true found 255 q, electing-value j tj .0)))) (eqb-true found 255 q))
-        (λ q. let (l, t) = h .value (eqb-false found 255 q) in
+        omega (arith, h .agreed j (omega arith) tj, eqb-true found (blank current) q, electing-value j tj .0)))) (eqb-true found (blank current) q))
+        (λ q. let (l, t) = h .value (eqb-false found (blank current) q) in
         rw (only-hit (elected p s values) (p .span) found l t (λ w lw ne. is-false (elected p s values w) (λ tw.
         let (j, lj, tj, z) = elected-child w lw tw in
         ne (sym z ∙ h .agreed j (omega arith) tj)))))

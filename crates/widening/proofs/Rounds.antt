@@ -36,7 +36,7 @@ use Rattle.widening.proofs.Mapped.{set-map, drop-map}
 
 -- Cells without a value, then what lies past them.
 blanks-wide : (k c : ℕ) (cells : List ℕ) → replicate k (blank two) ++ drop c (map wide cells) ≡ map wide (replicate k (blank one) ++ drop c cells)
-unfolding wide blank
+unfolding wide
 blanks-wide zero c cells = drop-map wide c cells
 blanks-wide (suc k) c cells = ap (λ t. 65535 ∷ t) (blanks-wide k c cells)
 
@@ -46,19 +46,19 @@ cleared-wide n cells = blanks-wide (cellCount n) (cellCount n) cells
 module _ (p : Plan) (m : p .span ≤ 255) where
   -- A value is its own widened form.
   pub wide-small : (v : ℕ) → v < p .span → wide v ≡ v
-  unfolding wide blank
+  unfolding wide
   wide-small v l = rw (ne-eqb v 255 (omega arith))
 
   -- Both marks count as the default.
   value-wide : (x : ℕ) → value p (wide x) ≡ value p x
-  unfolding value wide blank
+  unfolding value wide
   value-wide x =
       cases (eqb x 255)
       (λ e. let z = eqb-true x 255 e in rw (e, le-ltb 65535 (p .span) (omega arith), le-ltb x (p .span) (omega arith)))
       (λ e. rw e)
 
   pub read-wide : (cells : List ℕ) → read p (map wide cells) ≡ read p cells
-  unfolding read cellAt wide blank
+  unfolding read cellAt wide
   read-wide cells = fun-ext (λ α. ap (value p) (List·getD-map wide cells (place (p .n) α) 0) ∙ value-wide (getD cells (place (p .n) α) 0))
 
   -- What a board resolves and lists depends on the values read only.

@@ -4,6 +4,7 @@ use Prim.Native.Nat.{_≤_}
 use mathlib.Core.Path.{ap₂, _∙_}
 use native.Mathlib.Omega.{arith}
 use borrow.Author.Needs.{needs}
+use Rattle.codec.specs.Codec.{current, blank}
 use Rattle.protocol.specs.Records.{runEnded}
 use Rattle.protocol.specs.Rounds.{boardWith, convert}
 use Rattle.protocol.proofs.Judgement.{good-record, good-dealer}
@@ -16,7 +17,7 @@ convert-cells-requires : tie.Need-convert-cells-requires
 convert-cells-requires c κs =
     let e = c .before .before .before in
     let r = e .args .r in
-    let most : r .plan .span ≤ 255 = search needs in
+    let most : r .plan .span ≤ blank current = search needs in
     convertible (good-stands r (good-record r (e .pre .good)) _ (e .pre .table)) most (e .pre .enough)
 
 keep-root-requires : tie.Need-keep-root-requires

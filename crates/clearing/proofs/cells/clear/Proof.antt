@@ -5,7 +5,7 @@ use mathlib.Core.Path.{_≡_, refl, ap, _∙_}
 use native.Mathlib.Omega.{arith}
 use lib.ListN.{length, set, length-set}
 use borrow.Author.Needs.{needs}
-use Rattle.codec.specs.Codec.{blank}
+use Rattle.codec.specs.Codec.{current, blank}
 use Rattle.tree.specs.Places.{cellCount}
 use Rattle.tree.proofs.Within.{count-within}
 use Rattle.protocol.proofs.Judgement.{plan-facts}
@@ -30,15 +30,14 @@ slice-write-cells : tie.Need-slice-write-cells Inv-loop μ-loop
 slice-write-cells c = omega (arith, c .before .loop .inv .3)
 
 loop-again : tie.Need-loop-again Inv-loop μ-loop
-unfolding blank
 loop-again c =
     let l = c .before .loop in
     let start = c .before .before in
     let a = start .before .before .args in (
       omega arith,
       omega (arith, l .inv .1),
-      ap (λ x. set x l.i 255) (l .inv .2) ∙ cleared-more l.i (a.cells .now) (omega (arith, l .inv .1)),
-      length-set l.cells l.i 255 ∙ l .inv .3,
+      ap (λ x. set x l.i (blank current)) (l .inv .2) ∙ cleared-more l.i (a.cells .now) (omega (arith, l .inv .1)),
+      length-set l.cells l.i (blank current) ∙ l .inv .3,
     )
 
 same-length : tie.Need-same-length Inv-loop μ-loop
