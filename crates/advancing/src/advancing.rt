@@ -31,7 +31,7 @@ pub fn next_round(r: Record, list: [Slot; 7]) -> Record
 }
 
 // The next run, or the decision.
-fn next_run(r: Record, list: [Slot; 7], root: u8) -> Record
+fn next_run(r: Record, list: [Slot; 7], root: Value) -> Record
     requires { ⌜ goodRecord r ≡ true ⌝ }
     ensures { λ x. ⌜ x ≡ runEnded r list root ⌝ }
 {

@@ -1,17 +1,17 @@
 -- The laws of the codec, for every width: what is written is read back.
 -- Assumes nothing.
-use Prim.Native.Nat.{ℕ, suc, _+_, _*_, _/_, _%_, _<_}
+use Prim.Native.Nat.{ℕ, zero, suc, _+_, _*_, _/_, _%_, _^_, _≤_, _<_}
 use mathlib.Core.Path.{_≡_, refl, sym, _∙_, ap, ap₂}
-use mathlib.Core.Logic.{_⊎_, inl, inr}
-use mathlib.Core.Bool.{Bool, true, false, cond}
+use mathlib.Core.Logic.{_≢_, _⊎_, inl, inr, ⊎-elim}
+use mathlib.Core.Bool.{Bool, true, false}
 use mathlib.Core.List.{List, [], _∷_, _++_, append-assoc}
 use native.Mathlib.Omega.{arith}
 use native.Mathlib.Nat.{div-add-mod'}
 use lib.Dec.{eqb}
-use lib.ListN.{length, take, drop}
-use lib.Seq.{take-append-seam, drop-append-add, drop-drop}
-use borrow.Author.Tests.{eq-eqb, eqb-true}
-use Rattle.codec.specs.Codec.{Width, one, two, valueSize, encode, pairs, decode, written}
+use lib.ListN.{length, getD, set, take, drop, length-set, length-append}
+use lib.Seq.{take-append-seam, drop-append-add, drop-drop, drop-set-lt, set-split, take-at, length-take-le}
+use borrow.Author.Tests.{eq-eqb, ne-eqb, eqb-true, eqb-false}
+use Rattle.codec.specs.Codec.{Width, one, two, valueSize, blank, encode, pairs, decode, numberAt, written}
 
 pub length-encode : (w : Width) (vs : List ℕ) → length (encode w vs) ≡ valueSize w * length vs
 unfolding encode
@@ -45,15 +45,55 @@ pairs-length [] = refl
 pairs-length (h ∷ []) = refl
 pairs-length (h ∷ (l ∷ f)) = omega (arith, pairs-length f)
 
+-- Two bytes a value: an even count of bytes writes half as many values, an odd one none.
+decode-pairs : (f : List ℕ) → length f % 2 ≡ 0 → decode two f ≡ pairs f
+unfolding decode
+decode-pairs f e = rw (eq-eqb (length f % 2) 0 e) refl
+
+pub decode-even : (f : List ℕ) → length f % 2 ≡ 0 → length (decode two f) ≡ length f / 2
+decode-even f e = omega (arith, ap length (decode-pairs f e), pairs-length f)
+
+pub decode-odd : (f : List ℕ) → length f % 2 ≢ 0 → decode two f ≡ []
+unfolding decode
+decode-odd f e = rw (ne-eqb (length f % 2) 0 e) refl
+
+parity : (f : List ℕ) → (decode two f ≡ pairs f) ⊎ (decode two f ≡ [])
+parity f = go (eqb (length f % 2) 0) refl
+  where
+    go : (b : Bool) → eqb (length f % 2) 0 ≡ b → (decode two f ≡ pairs f) ⊎ (decode two f ≡ [])
+    go true e = inl (decode-pairs f (eqb-true (length f % 2) 0 e))
+    go false e = inr (decode-odd f (eqb-false (length f % 2) 0 e))
+
 -- Bytes for more than k values are more than k values, or none.
 pub decode-past : (w : Width) (k : ℕ) (f : List ℕ) → valueSize w * k < length f → (decode w f ≡ []) ⊎ (k < length (decode w f))
-unfolding decode
-decode-past one k f l = inr (omega arith)
+decode-past one k f l = unfold decode in inr (omega arith)
 decode-past two k f l = go (eqb (length f % 2) 0) refl
   where
-    go : (b : Bool) → eqb (length f % 2) 0 ≡ b → (cond b (pairs f) [] ≡ []) ⊎ (k < length (cond b (pairs f) []))
-    go true e = inr (omega (arith, eqb-true (length f % 2) 0 e, pairs-length f))
-    go false e = inl refl
+    go : (b : Bool) → eqb (length f % 2) 0 ≡ b → (decode two f ≡ []) ⊎ (k < length (decode two f))
+    go true e = let even = eqb-true (length f % 2) 0 e in inr (omega (arith, decode-even f even))
+    go false e = inl (decode-odd f (eqb-false (length f % 2) 0 e))
+
+pairs-at : (f : List ℕ) (i : ℕ) → i < length (pairs f) → getD (pairs f) i 0 ≡ getD f (2 * i) 0 * 256 + getD f (2 * i + 1) 0
+unfolding pairs
+pairs-at [] i l = absurd (omega arith)
+pairs-at (h ∷ []) i l = absurd (omega arith)
+pairs-at (h ∷ (t ∷ f)) zero l = refl
+pairs-at (h ∷ (t ∷ f)) (suc i) l =
+    pairs-at f i (omega arith)
+    ∙ ap₂ (λ j k. getD (h ∷ (t ∷ f)) j 0 * 256 + getD (h ∷ (t ∷ f)) k 0)
+    (let z : suc (suc (2 * i)) ≡ 2 * suc i = omega arith in z) (let z : suc (suc (2 * i + 1)) ≡ 2 * suc i + 1 = omega arith in z)
+
+-- Value number i is in bytes 2 i and 2 i + 1, the high one first.
+pub decode-fits : (f : List ℕ) (i : ℕ) → i < length (decode two f) → 2 * i + 1 < length f
+decode-fits f i l =
+    ⊎-elim (λ e. omega (arith, ap length e, pairs-length f)) (λ e. absurd (let z = ap length e in omega arith)) (parity f)
+
+pub decode-at : (f : List ℕ) (i : ℕ) → i < length (decode two f) → getD (decode two f) i 0 ≡ getD f (2 * i) 0 * 256 + getD f (2 * i + 1) 0
+decode-at f i l =
+    ⊎-elim
+    (λ e. ap (λ vs. getD vs i 0) e ∙ pairs-at f i (let z = ap length e in omega arith))
+    (λ e. absurd (let z = ap length e in omega arith))
+    (parity f)
 
 pub encode-append : (w : Width) (us vs : List ℕ) → encode w (us ++ vs) ≡ encode w us ++ encode w vs
 unfolding encode
@@ -83,6 +123,35 @@ written-next w vs out v i e =
     ap₂ (λ x y. x ++ (encode w (v ∷ []) ++ y)) kept past
     ∙ sym (append-assoc (encode w vs) (encode w (v ∷ [])) (drop (valueSize w * suc i) out))
     ∙ ap (λ x. x ++ drop (valueSize w * suc i) out) (sym (encode-append w vs (v ∷ [])))
+
+-- The two bytes of value number i, one after the other.
+pub written-pair : (out : List ℕ) (i v : ℕ) → 2 * i + 1 < length out → set (set out (2 * i) (v / 256)) (2 * i + 1) (v % 256) ≡ written two i v out
+unfolding written encode
+written-pair out i v l =
+    let high = set out (2 * i) (v / 256) in
+    let size : length high ≡ length out = length-set out (2 * i) (v / 256) in
+    set-split high (2 * i + 1) (v % 256) (omega arith)
+    ∙ ap₂ (λ x y. x ++ (v % 256 ∷ y))
+    (ap (take (2 * i + 1)) (set-split out (2 * i) (v / 256) (omega arith)) ∙ front)
+    (drop-set-lt (suc (2 * i + 1)) out (2 * i) (v / 256) (omega arith) ∙ ap (λ k. drop k out) (let z : suc (2 * i + 1) ≡ 2 * suc i = omega arith in z))
+    ∙ append-assoc (take (2 * i) out) (v / 256 ∷ []) _
+  where
+    front : take (2 * i + 1) (take (2 * i) out ++ (v / 256 ∷ drop (suc (2 * i)) out)) ≡ take (2 * i) out ++ (v / 256 ∷ [])
+    front =
+        ap (take (2 * i + 1)) (sym (append-assoc (take (2 * i) out) (v / 256 ∷ []) (drop (suc (2 * i)) out)))
+        ∙ take-at (take (2 * i) out ++ (v / 256 ∷ [])) (drop (suc (2 * i)) out) (2 * i + 1)
+        (length-append (take (2 * i) out) (v / 256 ∷ []) ∙ ap (λ k. k + 1) (length-take-le (2 * i) out (omega arith)))
+
+-- No number that the bytes of a value write is above the mark; so the mark is below no span.
+pub blank-most : (w : Width) (v : ℕ) → v < 256 ^ valueSize w → v ≤ blank w
+blank-most one v l = omega arith
+blank-most two v l = omega arith
+
+-- A number in a head is the value of its bytes.
+pub number-encoded : (w : Width) (v : ℕ) (rest : List ℕ) → numberAt w (encode w (v ∷ []) ++ rest) 0 ≡ v
+unfolding numberAt encode
+number-encoded one v rest = refl
+number-encoded two v rest = div-add-mod' v 256
 
 -- Nothing is written yet.
 pub written-none : (w : Width) (out : List ℕ) → out ≡ encode w [] ++ drop (valueSize w * 0) out

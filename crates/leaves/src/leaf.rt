@@ -23,7 +23,7 @@ pub fn is_leaf(plan: Plan, holders: &[u8], board: u8, boards: u8, left: u8) -> b
 }
 
 // A leaf resolves to its cell, which becomes a value.
-pub fn settle_leaf(plan: Plan, at: usize, cells: &mut [Value]) -> u8
+pub fn settle_leaf(plan: Plan, at: usize, cells: &mut [Value]) -> Value
     requires { ⌜ at < length (now cells) ⌝ }
     ensures { λ v. ⌜ Leaves plan at v (now (cells .entry)) (now (cells .exit)) ⌝ }
 {

@@ -19,7 +19,7 @@ fn resolve_node(
     boards: u8,
     left: u8,
     cells: &mut [Value],
-) -> u8
+) -> Value
     requires { ⌜ Resolvable plan (now holders) board level start index boards left (now cells) ⌝ }
     ensures { λ v. ⌜ Settles plan board left (node plan level index) v (now (cells .entry)) (now (cells .exit)) ⌝ }
 {
@@ -55,7 +55,7 @@ fn resolve_node(
 }
 
 // Resolves the root, where `top` is the last round: a value.
-pub fn resolve_root(plan: Plan, holders: &[u8], board: u8, top: u8, cells: &mut [Value]) -> u8
+pub fn resolve_root(plan: Plan, holders: &[u8], board: u8, top: u8, cells: &mut [Value]) -> Value
     requires { ⌜ WholeTree plan (now holders) board top (now cells) ⌝ }
     ensures { λ v. ⌜ Roots plan board v (now (cells .entry)) (now (cells .exit)) ⌝ }
 {

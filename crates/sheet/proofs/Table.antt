@@ -2,7 +2,7 @@
 -- Assumes nothing.
 use mathlib.Core.Path.{_≡_, refl}
 use mathlib.Core.Bool.{true}
-use Rattle.codec.specs.Codec.{encode, pairs, decode, numberAt}
+use Rattle.codec.specs.Codec.{Width, one, two, encode, pairs, decode, numberAt}
 use Rattle.sets.specs.Search.{first, any, count}
 use Rattle.sets.specs.Tabulate.{tabulate}
 use Rattle.sets.specs.Sets.{member, union, insert, within, boards, setOf, size}
@@ -32,8 +32,9 @@ use Rattle.protocol.specs.Session.{nobody, boardAt, begun, hears, handIn, takeA
 use Rattle.sheet.specs.Sheet.{prepend, lines, lineBytes, headOf, judgeHead, frameLine, earlier, rises, goodFrame, wrongAt, refusedReading, addFrame, readFrames, readHead, readLines, reading}
 use Rattle.hex.specs.Hex.{digit, joinByte, bytesOf, hexDigit, hexByte, hexBytes}
 use Rattle.sheet.specs.Playing.{findFrame, decoded, sheetAdversary, part, replacePart, setting, finalBoards, hexValue, printed, boardLine, printBoards, finalCells, refusedPlay, playHead, playing, refusalText, benchPrints}
-use Rattle.sheet.specs.Cases.{said, log, oneEntry, fivePlan, nodeCount, lentCells, lentOut, played, isAccepted, holds, allHold, example1, headLine, fourHead, head7, head9, bareHead, laterHead, fiveHead, pairHead, dealerLine, misfitLine, secondLine, liarLine, liar9, placedLine, printedLine, decidedPart, alone, fiveParts, sevenLines, sevenParts, caseTable}
+use Rattle.sheet.specs.Cases.{said, log, oneEntry, fivePlan, nodeCount, lentCells, lentOut, played, isAccepted, holds, allHold, example1, valueDigits, headLine, fourHead, head7, head9, bareHead, laterHead, fiveHead, pairHead, dealerLine, misfitLine, secondLine, liarLine, liar9, placedLine, printedLine, decidedPart, alone, fiveParts, sevenLines, sevenParts, caseTable}
 
-pub table-holds : allHold caseTable ≡ true
-unfolding encode pairs decode numberAt first any count member union insert within boards setOf size holder heldAt isSome tolerated strays covers thirdPlace secondPlace firstPlace covered places refusal verdict listed largest height isCut rounds ceilDiv runs firstRound hasRound steps step stepRun stepRound covering admitting andThen isDepth judgeSettings planning voidPlan planOn planned judged occurs mask last childrenFrom children childrenOf labels labelAt levelSize levelStart cellCount sizeWithin startWithin countWithin ordinal rank outsideBelow childIndex place′ cellAt store default value read filter internal nodes inner carried sent due frame only same vote tabulate resolve resolveRoot explained byCell byResolving entryAt hasEntry levelOf join asSet passes maskBoard detectG detectAllG detectC detectAllC detectLevels fill counted receive fillMissing copyOwn gather rootOnly nextRound convert runEnded close isTaken judgeNumber judgeOther judgeBoard judgeCells goodPlan goodNumber goodOther goodPosition goodMarks goodEntry goodEntries goodDecision goodRecord judgeRecord judgeOpen freshRecord voidRecord judgeBeginning beginning dealing judgeReceiving taking receiving frameOf wireOf judgeSending sending closedValues closing deciding nobody boardAt begun hears handIn takeAll hearAll session at prepend lines digit joinByte bytesOf lineBytes headOf judgeHead frameLine earlier rises goodFrame wrongAt refusedReading addFrame readFrames readHead readLines reading findFrame decoded sheetAdversary part replacePart setting finalBoards hexDigit hexByte hexBytes hexValue printed boardLine printBoards finalCells refusedPlay playHead playing refusalText benchPrints sameList said log oneEntry fivePlan nodeCount lentCells lentOut played isAccepted holds allHold example1 headLine fourHead head7 head9 bareHead laterHead fiveHead pairHead dealerLine misfitLine secondLine liarLine liar9 placedLine printedLine decidedPart alone fiveParts sevenLines sevenParts caseTable
-table-holds = refl
+pub table-holds : (w : Width) → allHold w (caseTable w) ≡ true
+unfolding encode pairs decode numberAt first any count member union insert within boards setOf size holder heldAt isSome tolerated strays covers thirdPlace secondPlace firstPlace covered places refusal verdict listed largest height isCut rounds ceilDiv runs firstRound hasRound steps step stepRun stepRound covering admitting andThen isDepth judgeSettings planning voidPlan planOn planned judged occurs mask last childrenFrom children childrenOf labels labelAt levelSize levelStart cellCount sizeWithin startWithin countWithin ordinal rank outsideBelow childIndex place′ cellAt store default value read filter internal nodes inner carried sent due frame only same vote tabulate resolve resolveRoot explained byCell byResolving entryAt hasEntry levelOf join asSet passes maskBoard detectG detectAllG detectC detectAllC detectLevels fill counted receive fillMissing copyOwn gather rootOnly nextRound convert runEnded close isTaken judgeNumber judgeOther judgeBoard judgeCells goodPlan goodNumber goodOther goodPosition goodMarks goodEntry goodEntries goodDecision goodRecord judgeRecord judgeOpen freshRecord voidRecord judgeBeginning beginning dealing judgeReceiving taking receiving frameOf wireOf judgeSending sending closedValues closing deciding nobody boardAt begun hears handIn takeAll hearAll session at prepend lines digit joinByte bytesOf lineBytes headOf judgeHead frameLine earlier rises goodFrame wrongAt refusedReading addFrame readFrames readHead readLines reading findFrame decoded sheetAdversary part replacePart setting finalBoards hexDigit hexByte hexBytes hexValue printed boardLine printBoards finalCells refusedPlay playHead playing refusalText benchPrints sameList said log oneEntry fivePlan nodeCount lentCells lentOut played isAccepted holds allHold example1 valueDigits headLine fourHead head7 head9 bareHead laterHead fiveHead pairHead dealerLine misfitLine secondLine liarLine liar9 placedLine printedLine decidedPart alone fiveParts sevenLines sevenParts caseTable
+table-holds one = refl
+table-holds two = refl

@@ -1,10 +1,10 @@
--- The sessions to hold it against: cases 1 to 10 of 01 and some for 02 as one table, and the test of a row.
+-- The sessions to hold it against: cases 1 to 10 of 01 and some for 02 as one table, by the width of a value, and the test of a row.
 use Prim.Native.Nat.{ℕ, zero, suc, _+_, _-_}
 use mathlib.Core.Bool.{Bool, true, _&&_}
 use mathlib.Core.List.{List, [], _∷_, _++_}
 use lib.Dec.{eqb}
 use lib.ListN.{length, getD, replicate}
-use Rattle.codec.specs.Codec.{current}
+use Rattle.codec.specs.Codec.{Width, one, two, blank, encode}
 use Rattle.sets.specs.Only.{sameList}
 use Rattle.plan.specs.declared.plan.Plan.{Plan}
 use Rattle.heights.specs.Levels.{height}
@@ -22,7 +22,7 @@ use Rattle.protocol.specs.declared.records.Entry.the-variants as Entry
 use Rattle.protocol.specs.declared.records.Slot.{Slot}
 use Rattle.protocol.specs.Listing.{noEntries, entryAt, join}
 use Rattle.protocol.specs.Records.{standingAt, withMarks}
-use Rattle.protocol.specs.Rounds.{boardWith, gather}
+use Rattle.protocol.specs.Rounds.{boardOf, gather}
 use Rattle.protocol.specs.Calls.{beginning, receiving, deciding}
 use Rattle.protocol.specs.Session.{boardAt}
 use Rattle.sheet.specs.Sheet.{reading}
@@ -79,13 +79,13 @@ nodeCount p (suc k) = nodeCount p k + length (nodes p 0 (suc k))
 unfoldable pub lentCells : List ℕ
 lentCells = replicate cellsNeeded 7
 
-unfoldable pub lentOut : List ℕ
-lentOut = replicate (outputNeeded current) 9
+unfoldable pub lentOut : Width → List ℕ
+lentOut w = replicate (outputNeeded w) 9
 
-unfoldable pub played : Play → List ℕ → List ℕ → Bool
-played r text cells =
+unfoldable pub played : Width → Play → List ℕ → List ℕ → Bool
+played w r text cells =
     (eqb (r .answer .number) 0 && sameList (r .answer .values) (length text ∷ []))
-    && (sameList (r .out) (text ++ replicate (outputNeeded current - length text) 9) && sameList (r .cells) (cells ++ replicate (cellsNeeded - length cells) 7))
+    && (sameList (r .out) (text ++ replicate (outputNeeded w - length text) 9) && sameList (r .cells) (cells ++ replicate (cellsNeeded - length cells) 7))
 
 -- The settings with a span of 16 and the default 0.
 abbrev sixteen : ℕ → ℕ → Settings
@@ -96,119 +96,126 @@ unfoldable pub isAccepted : ℕ → List ℕ → ℕ → ℕ → Bool
 isAccepted n sets d b = eqb (planning n (length sets) sets (sixteen d b) .number) 0
 
 -- Does a row hold?
-unfoldable pub holds : Row → Bool
-holds (admit n sets k vs) = let o = admitting n (length sets) sets in eqb (o .number) k && sameList (o .values) vs
-holds (refuse n sets d m x b k) = eqb (planning n (length sets) sets (record { dealer = d; span = m; default = x; depth = b }) .number) k
-holds (schedule n sets d b h t j) =
+unfoldable pub holds : Width → Row → Bool
+holds w (admit n sets k vs) = let o = admitting n (length sets) sets in eqb (o .number) k && sameList (o .values) vs
+holds w (refuse n sets d m x b k) = eqb (planning n (length sets) sets (record { dealer = d; span = m; default = x; depth = b }) .number) k
+holds w (schedule n sets d b h t j) =
     let p = planned n sets (sixteen d b) in
     (isAccepted n sets d b && eqb (height p) h) && (eqb (runs p .0) t && eqb (steps p) j)
-holds (tree n sets d k) = let p = planned n sets (sixteen d 0) in isAccepted n sets d 0 && eqb (nodeCount p (rounds p .0)) k
-holds (sheet text out cells) = let r = playing current text lentCells lentOut in played r out cells
-holds (refusedSheet text line) = sameList (benchPrints current text lentCells lentOut) line
-holds (stored m x list vs c) =
+holds w (tree n sets d k) = let p = planned n sets (sixteen d 0) in isAccepted n sets d 0 && eqb (nodeCount p (rounds p .0)) k
+holds w (sheet text out cells) = let r = playing w text lentCells (lentOut w) in played w r out cells
+holds w (refusedSheet text line) = sameList (benchPrints w text lentCells (lentOut w)) line
+holds w (stored m x list vs c) =
     let p = planned 4 (1 ∷ 2 ∷ 4 ∷ 8 ∷ []) (record { dealer = 0; span = m; default = x; depth = 0 }) in
-    let b = beginning current p 1 (replicate 16 9) .board in
-    let r = receiving (boardWith (standingAt p (b .rec .board) (b .rec .run) (b .rec .round) list) (b .cells)) 0 vs in
+    let b = beginning w p 1 (replicate 16 9) .board in
+    let r = receiving (boardOf w (standingAt p (b .rec .board) (b .rec .run) (b .rec .round) list) (b .cells)) 0 (encode w vs) in
     eqb (r .answer .number) 0 && eqb (getD (r .board .cells) 0 0) c
-holds (gathered x cells entries after) =
-    let s = gather (boardWith (withMarks (standingAt (fivePlan x) 2 (record { 0 = 1 }) (record { 0 = 3 }) noEntries) 0x1A) (cells ++ replicate 48 9)) in
+holds w (gathered x cells entries after) =
+    let s = gather (boardOf w (withMarks (standingAt (fivePlan x) 2 (record { 0 = 1 }) (record { 0 = 3 }) noEntries) 0x1A) (cells ++ replicate 48 9)) in
     sameList (log (s .list) 0 7) entries && sameList (s .cells) (after ++ replicate 48 9)
-holds (logged text i entries) =
-    let r = reading current text in
-    eqb (r .answer .number) 0 && sameList (log (boardAt (finalBoards current (r .head) (r .frames) lentCells) i .rec .list) 0 7) entries
-holds (entered q t k rule number) =
+holds w (logged text i entries) =
+    let r = reading w text in
+    eqb (r .answer .number) 0 && sameList (log (boardAt (finalBoards w (r .head) (r .frames) lentCells) i .rec .list) 0 7) entries
+holds w (entered q t k rule number) =
     eqb (deciding (standingAt (fivePlan 0) 2 (record { 0 = 1 }) (record { 0 = 1 }) (oneEntry q t k rule)) .number) number
 
-unfoldable pub allHold : List Row → Bool
-allHold [] = true
-allHold (r ∷ rs) = holds r && allHold rs
+unfoldable pub allHold : Width → List Row → Bool
+allHold w [] = true
+allHold w (r ∷ rs) = holds w r && allHold w rs
 
 -- 003, example 1.
 unfoldable pub example1 : List ℕ
 example1 = 0x07 ∷ 0x09 ∷ 0x12 ∷ 0x22 ∷ 0x0C ∷ []
 
--- A head: 0, the digit of n, 10, the two digits of the default, 000005, the digits of s and the sets, 0, the digit of F, and a newline.
-unfoldable pub headLine : ℕ → ℕ → ℕ → List ℕ → ℕ → List ℕ
-headLine n x y sets f =
-    0x30 ∷ n ∷ 0x31 ∷ 0x30 ∷ x ∷ y ∷ 0x30 ∷ 0x30 ∷ 0x30 ∷ 0x30 ∷ 0x30 ∷ 0x35 ∷ (sets ++ (0x30 ∷ f ∷ 0x0A ∷ []))
+-- The digits of a value below 256, by its last two: in two bytes 00 stands before them.
+unfoldable pub valueDigits : Width → ℕ → ℕ → List ℕ → List ℕ
+valueDigits one x y rest = x ∷ y ∷ rest
+valueDigits two x y rest = 0x30 ∷ 0x30 ∷ x ∷ y ∷ rest
+
+-- A head: 0, the digit of n, the span 10, the default by its last two digits, 0000, the dealer's value 05, the digits of s and the sets, 0,
+-- the digit of F, and a newline.
+unfoldable pub headLine : Width → ℕ → ℕ → ℕ → List ℕ → ℕ → List ℕ
+headLine w n x y sets f =
+    0x30 ∷ n ∷ valueDigits w 0x31 0x30 (valueDigits w x y
+    (0x30 ∷ 0x30 ∷ 0x30 ∷ 0x30 ∷ valueDigits w 0x30 0x35 (sets ++ (0x30 ∷ f ∷ 0x0A ∷ []))))
 
 -- One with four boards and the sets 01, 02, 04, 08.
-unfoldable pub fourHead : ℕ → ℕ → ℕ → List ℕ
-fourHead x y f = headLine 0x34 x y (0x30 ∷ 0x34 ∷ 0x30 ∷ 0x31 ∷ 0x30 ∷ 0x32 ∷ 0x30 ∷ 0x34 ∷ 0x30 ∷ 0x38 ∷ []) f
+unfoldable pub fourHead : Width → ℕ → ℕ → ℕ → List ℕ
+fourHead w x y f = headLine w 0x34 x y (0x30 ∷ 0x34 ∷ 0x30 ∷ 0x31 ∷ 0x30 ∷ 0x32 ∷ 0x30 ∷ 0x34 ∷ 0x30 ∷ 0x38 ∷ []) f
 
--- The head of cases 7 and 8, 041000000005040102040801. 02 b: "cases 7 to 9 hold 00 there".
-unfoldable pub head7 : List ℕ
-head7 = fourHead 0x30 0x30 0x31
+-- The head of cases 7 and 8, in one byte 041000000005040102040801. 02 b: "cases 7 to 9 hold 00 there".
+unfoldable pub head7 : Width → List ℕ
+head7 w = fourHead w 0x30 0x30 0x31
 
--- The head of case 9, 041000000005040102040808.
-unfoldable pub head9 : List ℕ
-head9 = fourHead 0x30 0x30 0x38
+-- The head of case 9, in one byte 041000000005040102040808.
+unfoldable pub head9 : Width → List ℕ
+head9 w = fourHead w 0x30 0x30 0x38
 
 -- A head with no sets and the default 0.
-unfoldable pub bareHead : ℕ → ℕ → List ℕ
-bareHead n f = headLine n 0x30 0x30 (0x30 ∷ 0x30 ∷ []) f
+unfoldable pub bareHead : Width → ℕ → ℕ → List ℕ
+bareHead w n f = headLine w n 0x30 0x30 (0x30 ∷ 0x30 ∷ []) f
 
 -- Heads with four boards and the default 0: the five sets 08, 01, 01, 02, 04; and the two sets 00 and 09.
-unfoldable pub laterHead : ℕ → List ℕ
-laterHead f = headLine 0x34 0x30 0x30 (0x30 ∷ 0x35 ∷ 0x30 ∷ 0x38 ∷ 0x30 ∷ 0x31 ∷ 0x30 ∷ 0x31 ∷ 0x30 ∷ 0x32 ∷ 0x30 ∷ 0x34 ∷ []) f
+unfoldable pub laterHead : Width → ℕ → List ℕ
+laterHead w f = headLine w 0x34 0x30 0x30 (0x30 ∷ 0x35 ∷ 0x30 ∷ 0x38 ∷ 0x30 ∷ 0x31 ∷ 0x30 ∷ 0x31 ∷ 0x30 ∷ 0x32 ∷ 0x30 ∷ 0x34 ∷ []) f
 
 -- Five boards, the sets 03, 05, 09 and F = 03.
-unfoldable pub fiveHead : List ℕ
-fiveHead = headLine 0x35 0x30 0x30 (0x30 ∷ 0x33 ∷ 0x30 ∷ 0x33 ∷ 0x30 ∷ 0x35 ∷ 0x30 ∷ 0x39 ∷ []) 0x33
+unfoldable pub fiveHead : Width → List ℕ
+fiveHead w = headLine w 0x35 0x30 0x30 (0x30 ∷ 0x33 ∷ 0x30 ∷ 0x33 ∷ 0x30 ∷ 0x35 ∷ 0x30 ∷ 0x39 ∷ []) 0x33
 
-unfoldable pub pairHead : ℕ → List ℕ
-pairHead f = headLine 0x34 0x30 0x30 (0x30 ∷ 0x32 ∷ 0x30 ∷ 0x30 ∷ 0x30 ∷ 0x39 ∷ []) f
+unfoldable pub pairHead : Width → ℕ → List ℕ
+pairHead w f = headLine w 0x34 0x30 0x30 (0x30 ∷ 0x32 ∷ 0x30 ∷ 0x30 ∷ 0x30 ∷ 0x39 ∷ []) f
 
 -- 010100, a receiver's digits, and a value's digits, and a newline: a frame of the dealer.
-unfoldable pub dealerLine : ℕ → ℕ → List ℕ
-dealerLine i v =
-    0x30 ∷ 0x31 ∷ 0x30 ∷ 0x31 ∷ 0x30 ∷ 0x30 ∷ 0x30 ∷ i ∷ 0x30 ∷ v ∷ 0x0A ∷ []
+unfoldable pub dealerLine : Width → ℕ → ℕ → List ℕ
+dealerLine w i v =
+    0x30 ∷ 0x31 ∷ 0x30 ∷ 0x31 ∷ 0x30 ∷ 0x30 ∷ 0x30 ∷ i ∷ valueDigits w 0x30 v (0x0A ∷ [])
 
--- 010100, a receiver's digits, and 0909, and a newline: a frame of the dealer with a value too many.
-unfoldable pub misfitLine : ℕ → List ℕ
-misfitLine i = 0x30 ∷ 0x31 ∷ 0x30 ∷ 0x31 ∷ 0x30 ∷ 0x30 ∷ 0x30 ∷ i ∷ 0x30 ∷ 0x39 ∷ 0x30 ∷ 0x39 ∷ 0x0A ∷ []
+-- 010100, a receiver's digits, and 09 twice, and a newline: a frame of the dealer with a value too many.
+unfoldable pub misfitLine : Width → ℕ → List ℕ
+misfitLine w i = 0x30 ∷ 0x31 ∷ 0x30 ∷ 0x31 ∷ 0x30 ∷ 0x30 ∷ 0x30 ∷ i ∷ valueDigits w 0x30 0x39 (valueDigits w 0x30 0x39 (0x0A ∷ []))
 
 -- 0102, a sender's digits, a receiver's digits, and a value's digits, and a newline: a frame of one value in round 2.
-unfoldable pub secondLine : ℕ → ℕ → ℕ → List ℕ
-secondLine q i v = 0x30 ∷ 0x31 ∷ 0x30 ∷ 0x32 ∷ 0x30 ∷ q ∷ 0x30 ∷ i ∷ 0x30 ∷ v ∷ 0x0A ∷ []
+unfoldable pub secondLine : Width → ℕ → ℕ → ℕ → List ℕ
+secondLine w q i v = 0x30 ∷ 0x31 ∷ 0x30 ∷ 0x32 ∷ 0x30 ∷ q ∷ 0x30 ∷ i ∷ valueDigits w 0x30 v (0x0A ∷ [])
 
 -- One of board 3.
-unfoldable pub liarLine : ℕ → ℕ → List ℕ
-liarLine i v = secondLine 0x33 i v
+unfoldable pub liarLine : Width → ℕ → ℕ → List ℕ
+liarLine w i v = secondLine w 0x33 i v
 
 -- 0102030109 and a newline.
-unfoldable pub liar9 : List ℕ
-liar9 = liarLine 0x31 0x39
+unfoldable pub liar9 : Width → List ℕ
+liar9 w = liarLine w 0x31 0x39
 
 -- A printed line: 0, a board's digit, 0, a value's digit, 0, a set's digit, 0, a place's digit, and a newline.
-unfoldable pub placedLine : ℕ → ℕ → ℕ → ℕ → List ℕ
-placedLine i v s k = 0x30 ∷ i ∷ 0x30 ∷ v ∷ 0x30 ∷ s ∷ 0x30 ∷ k ∷ 0x0A ∷ []
+unfoldable pub placedLine : Width → ℕ → ℕ → ℕ → ℕ → List ℕ
+placedLine w i v s k = 0x30 ∷ i ∷ valueDigits w 0x30 v (0x30 ∷ s ∷ 0x30 ∷ k ∷ 0x0A ∷ [])
 
 -- One with the place 00. 02 c: "00 in cases 7 to 9".
-unfoldable pub printedLine : ℕ → ℕ → ℕ → List ℕ
-printedLine i v s = placedLine i v s 0x30
+unfoldable pub printedLine : Width → ℕ → ℕ → ℕ → List ℕ
+printedLine w i v s = placedLine w i v s 0x30
 
--- What a board's part holds at the end: the decision, and FF.
-unfoldable pub decidedPart : ℕ → List ℕ
-decidedPart v = v ∷ replicate 15 0xFF
+-- What a board's part holds at the end: the decision, and no other value.
+unfoldable pub decidedPart : Width → ℕ → List ℕ
+decidedPart w v = v ∷ replicate 15 (blank w)
 
 -- A part that is left alone.
 unfoldable pub alone : List ℕ
 alone = replicate 16 7
 
 -- The parts if board 0 is the dealer and boards 1 and 2 decide 5.
-unfoldable pub fiveParts : List ℕ
-fiveParts = alone ++ (decidedPart 5 ++ decidedPart 5)
+unfoldable pub fiveParts : Width → List ℕ
+fiveParts w = alone ++ (decidedPart w 5 ++ decidedPart w 5)
 
 -- What boards 1, 2 and 3 print if they decide 7 and list the set with this digit; and what the parts hold.
-unfoldable pub sevenLines : ℕ → List ℕ
-sevenLines s = printedLine 0x31 0x37 s ++ (printedLine 0x32 0x37 s ++ printedLine 0x33 0x37 s)
+unfoldable pub sevenLines : Width → ℕ → List ℕ
+sevenLines w s = printedLine w 0x31 0x37 s ++ (printedLine w 0x32 0x37 s ++ printedLine w 0x33 0x37 s)
 
-unfoldable pub sevenParts : List ℕ
-sevenParts = alone ++ (decidedPart 7 ++ (decidedPart 7 ++ decidedPart 7))
+unfoldable pub sevenParts : Width → List ℕ
+sevenParts w = alone ++ (decidedPart w 7 ++ (decidedPart w 7 ++ decidedPart w 7))
 
-unfoldable pub caseTable : List Row
-caseTable =
+unfoldable pub caseTable : Width → List Row
+caseTable w =
     -- 1, 2
     admit 3 (0x01 ∷ 0x02 ∷ 0x04 ∷ []) 5 (0 ∷ 1 ∷ 2 ∷ [])
     ∷ admit 4 (0x01 ∷ 0x02 ∷ 0x04 ∷ 0x08 ∷ []) 0 []
@@ -232,20 +239,20 @@ caseTable =
     ∷ schedule 7 (0x3F ∷ []) 6 0 1 1 1
     ∷ schedule 7 (0x3F ∷ []) 6 7 1 1 1
     -- 7: values 05, 05, 07; then 01050000, 02050000, 03050000
-    ∷ sheet (head7 ++ (dealerLine 0x31 0x35 ++ (dealerLine 0x32 0x35 ++ dealerLine 0x33 0x37)))
-    (printedLine 0x31 0x35 0x30 ++ (printedLine 0x32 0x35 0x30 ++ printedLine 0x33 0x35 0x30))
-    (alone ++ (decidedPart 5 ++ (decidedPart 5 ++ decidedPart 5)))
+    ∷ sheet (head7 w ++ (dealerLine w 0x31 0x35 ++ (dealerLine w 0x32 0x35 ++ dealerLine w 0x33 0x37)))
+    (printedLine w 0x31 0x35 0x30 ++ (printedLine w 0x32 0x35 0x30 ++ printedLine w 0x33 0x35 0x30))
+    (alone ++ (decidedPart w 5 ++ (decidedPart w 5 ++ decidedPart w 5)))
     -- 8: values 05, 07, 09; then 01000100, 02000100, 03000100
-    ∷ sheet (head7 ++ (dealerLine 0x31 0x35 ++ (dealerLine 0x32 0x37 ++ dealerLine 0x33 0x39)))
-    (printedLine 0x31 0x30 0x31 ++ (printedLine 0x32 0x30 0x31 ++ printedLine 0x33 0x30 0x31))
-    (alone ++ (decidedPart 0 ++ (decidedPart 0 ++ decidedPart 0)))
+    ∷ sheet (head7 w ++ (dealerLine w 0x31 0x35 ++ (dealerLine w 0x32 0x37 ++ dealerLine w 0x33 0x39)))
+    (printedLine w 0x31 0x30 0x31 ++ (printedLine w 0x32 0x30 0x31 ++ printedLine w 0x33 0x30 0x31))
+    (alone ++ (decidedPart w 0 ++ (decidedPart w 0 ++ decidedPart w 0)))
     -- 9: then 00050000, 01050000, 02050000
-    ∷ sheet (head9 ++ liar9)
-    (printedLine 0x30 0x35 0x30 ++ (printedLine 0x31 0x35 0x30 ++ printedLine 0x32 0x35 0x30))
-    fiveParts
+    ∷ sheet (head9 w ++ liar9 w)
+    (printedLine w 0x30 0x35 0x30 ++ (printedLine w 0x31 0x35 0x30 ++ printedLine w 0x32 0x35 0x30))
+    (fiveParts w)
     -- sheets that are turned down: an empty one, FF160001; case 9 with its frame twice, FF180003
     ∷ refusedSheet [] (0x46 ∷ 0x46 ∷ 0x31 ∷ 0x36 ∷ 0x30 ∷ 0x30 ∷ 0x30 ∷ 0x31 ∷ 0x0A ∷ [])
-    ∷ refusedSheet (head9 ++ (liar9 ++ liar9)) (0x46 ∷ 0x46 ∷ 0x31 ∷ 0x38 ∷ 0x30 ∷ 0x30 ∷ 0x30 ∷ 0x33 ∷ 0x0A ∷ [])
+    ∷ refusedSheet (head9 w ++ (liar9 w ++ liar9 w)) (0x46 ∷ 0x46 ∷ 0x31 ∷ 0x38 ∷ 0x30 ∷ 0x30 ∷ 0x30 ∷ 0x33 ∷ 0x0A ∷ [])
     -- 10
     ∷ stored 16 0 noEntries (0x0F ∷ []) 0x0F
     ∷ stored 16 0 noEntries (0x10 ∷ []) 0
@@ -255,16 +262,16 @@ caseTable =
     ∷ schedule 1 [] 0 0 1 1 1
     ∷ schedule 4 [] 0 4 1 1 1
     ∷ tree 4 [] 0 1
-    ∷ sheet (bareHead 0x31 0x30) (printedLine 0x30 0x35 0x30) []
-    ∷ sheet (bareHead 0x34 0x30)
-    (printedLine 0x30 0x35 0x30 ++ (printedLine 0x31 0x35 0x30 ++ (printedLine 0x32 0x35 0x30 ++ printedLine 0x33 0x35 0x30)))
-    (alone ++ (decidedPart 5 ++ (decidedPart 5 ++ decidedPart 5)))
-    ∷ refusedSheet (bareHead 0x34 0x31) (0x46 ∷ 0x46 ∷ 0x31 ∷ 0x37 ∷ 0x30 ∷ 0x30 ∷ 0x30 ∷ 0x31 ∷ 0x0A ∷ [])
+    ∷ sheet (bareHead w 0x31 0x30) (printedLine w 0x30 0x35 0x30) []
+    ∷ sheet (bareHead w 0x34 0x30)
+    (printedLine w 0x30 0x35 0x30 ++ (printedLine w 0x31 0x35 0x30 ++ (printedLine w 0x32 0x35 0x30 ++ printedLine w 0x33 0x35 0x30)))
+    (alone ++ (decidedPart w 5 ++ (decidedPart w 5 ++ decidedPart w 5)))
+    ∷ refusedSheet (bareHead w 0x34 0x31) (0x46 ∷ 0x46 ∷ 0x31 ∷ 0x37 ∷ 0x30 ∷ 0x30 ∷ 0x30 ∷ 0x31 ∷ 0x0A ∷ [])
     -- 02 b, the default 7. A dealer that is silent: all decide 7. One that says 05, 06 and 09: the root is unresolved, all decide 7
     -- and list it. One whose frames to boards 2 and 3 are misfits: all decide 7.
-    ∷ sheet (fourHead 0x30 0x37 0x31) (sevenLines 0x30) sevenParts
-    ∷ sheet (fourHead 0x30 0x37 0x31 ++ (dealerLine 0x31 0x35 ++ (dealerLine 0x32 0x36 ++ dealerLine 0x33 0x39))) (sevenLines 0x31) sevenParts
-    ∷ sheet (fourHead 0x30 0x37 0x31 ++ (dealerLine 0x31 0x35 ++ (misfitLine 0x32 ++ misfitLine 0x33))) (sevenLines 0x30) sevenParts
+    ∷ sheet (fourHead w 0x30 0x37 0x31) (sevenLines w 0x30) (sevenParts w)
+    ∷ sheet (fourHead w 0x30 0x37 0x31 ++ (dealerLine w 0x31 0x35 ++ (dealerLine w 0x32 0x36 ++ dealerLine w 0x33 0x39))) (sevenLines w 0x31) (sevenParts w)
+    ∷ sheet (fourHead w 0x30 0x37 0x31 ++ (dealerLine w 0x31 0x35 ++ (misfitLine w 0x32 ++ misfitLine w 0x33))) (sevenLines w 0x30) (sevenParts w)
     -- a value below m, one of m, a misfit frame, a frame of a listed board
     ∷ stored 16 7 noEntries (0x0F ∷ []) 0x0F
     ∷ stored 16 7 noEntries (0x10 ∷ []) 7
@@ -282,24 +289,24 @@ caseTable =
     ∷ refuse 4 (0x01 ∷ 0x02 ∷ 0x04 ∷ 0x08 ∷ []) 0 16 16 3 26
     ∷ refuse 4 (0x01 ∷ 0x02 ∷ 0x04 ∷ 0x08 ∷ []) 0 16 15 3 8
     ∷ refuse 4 (0x01 ∷ 0x02 ∷ 0x04 ∷ 0x08 ∷ []) 0 16 15 0 0
-    ∷ refusedSheet (fourHead 0x31 0x30 0x31) (0x46 ∷ 0x46 ∷ 0x31 ∷ 0x41 ∷ 0x30 ∷ 0x30 ∷ 0x30 ∷ 0x31 ∷ 0x0A ∷ [])
+    ∷ refusedSheet (fourHead w 0x31 0x30 0x31) (0x46 ∷ 0x46 ∷ 0x31 ∷ 0x41 ∷ 0x30 ∷ 0x30 ∷ 0x30 ∷ 0x31 ∷ 0x0A ∷ [])
     -- 02 c, the place of a list. As 8 with the sets 08, 01, 01, 02, 04: the first that holds 01 is at 1, 01000101, 02000101, 03000101
-    ∷ sheet (laterHead 0x31 ++ (dealerLine 0x31 0x35 ++ (dealerLine 0x32 0x37 ++ dealerLine 0x33 0x39)))
-    (placedLine 0x31 0x30 0x31 0x31 ++ (placedLine 0x32 0x30 0x31 0x31 ++ placedLine 0x33 0x30 0x31 0x31))
-    (alone ++ (decidedPart 0 ++ (decidedPart 0 ++ decidedPart 0)))
+    ∷ sheet (laterHead w 0x31 ++ (dealerLine w 0x31 0x35 ++ (dealerLine w 0x32 0x37 ++ dealerLine w 0x33 0x39)))
+    (placedLine w 0x31 0x30 0x31 0x31 ++ (placedLine w 0x32 0x30 0x31 0x31 ++ placedLine w 0x33 0x30 0x31 0x31))
+    (alone ++ (decidedPart w 0 ++ (decidedPart w 0 ++ decidedPart w 0)))
     -- the sets 00 and 09, F = 08; board 3 tells board 1 that the dealer said 05, and board 2 that it said 07: both list it, at place 1,
     -- and the dealer's place is 00: 00050000, 01050801, 02050801
-    ∷ sheet (pairHead 0x38 ++ (liarLine 0x31 0x35 ++ liarLine 0x32 0x37))
-    (placedLine 0x30 0x35 0x30 0x30 ++ (placedLine 0x31 0x35 0x38 0x31 ++ placedLine 0x32 0x35 0x38 0x31))
-    fiveParts
+    ∷ sheet (pairHead w 0x38 ++ (liarLine w 0x31 0x35 ++ liarLine w 0x32 0x37))
+    (placedLine w 0x30 0x35 0x30 0x30 ++ (placedLine w 0x31 0x35 0x38 0x31 ++ placedLine w 0x32 0x35 0x38 0x31))
+    (fiveParts w)
     -- 02 d, entries. 8: board 1 lists the dealer in run 1 and round 2, by rule G at level 1
-    ∷ logged (head7 ++ (dealerLine 0x31 0x35 ++ (dealerLine 0x32 0x37 ++ dealerLine 0x33 0x39))) 1 (0 ∷ 1 ∷ 2 ∷ 0x47 ∷ 1 ∷ [])
+    ∷ logged (head7 w ++ (dealerLine w 0x31 0x35 ++ (dealerLine w 0x32 0x37 ++ dealerLine w 0x33 0x39))) 1 (0 ∷ 1 ∷ 2 ∷ 0x47 ∷ 1 ∷ [])
     -- 9: nobody is listed
-    ∷ logged (head9 ++ liar9) 1 []
+    ∷ logged (head9 w ++ liar9 w) 1 []
     -- five boards; the dealer tells board 3 another value, and board 1 tells each another one: in round 3 board 2 lists board 1 by rule G at
     -- level 2, and the dealer by rule C at level 1: 0 1 resolves to 9 and 0 3 to 7, and boards 1 and 3 are no tolerated set
-    ∷ logged (fiveHead ++ (dealerLine 0x32 0x35 ++ (dealerLine 0x33 0x37 ++ (dealerLine 0x34 0x35
-    ++ (secondLine 0x31 0x32 0x35 ++ (secondLine 0x31 0x33 0x38 ++ secondLine 0x31 0x34 0x39)))))) 2 (0 ∷ 1 ∷ 3 ∷ 0x43 ∷ 1 ∷ (1 ∷ 1 ∷ 3 ∷ 0x47 ∷ 2 ∷ []))
+    ∷ logged (fiveHead w ++ (dealerLine w 0x32 0x35 ++ (dealerLine w 0x33 0x37 ++ (dealerLine w 0x34 0x35
+    ++ (secondLine w 0x31 0x32 0x35 ++ (secondLine w 0x31 0x33 0x38 ++ secondLine w 0x31 0x34 0x39)))))) 2 (0 ∷ 1 ∷ 3 ∷ 0x43 ∷ 1 ∷ (1 ∷ 1 ∷ 3 ∷ 0x47 ∷ 2 ∷ []))
     -- number 12: R is 3, and there is one run. Levels 1 and 2, also where the rule would not have them; then 0 and 3, a run or a round
     -- that the plan lacks, and board 5
     ∷ entered 4 1 3 (Rule.G 2) 19

@@ -43,7 +43,7 @@ fn elects(plan: Plan, holders: &[u8], boards: u8, values: [Value; 8], c: u8) -> 
 }
 
 // The only value below m whose holders are not tolerated, of the children's own; FF if there is none or more than one.
-pub fn vote(plan: Plan, holders: &[u8], boards: u8, values: [Value; 8]) -> u8
+pub fn vote(plan: Plan, holders: &[u8], boards: u8, values: [Value; 8]) -> Value
     requires { ⌜ Tabled plan (now holders) ⌝ }
     ensures { λ r. ⌜ r ≡ voted plan boards values ⌝ }
 {
