@@ -10,7 +10,7 @@ use Rattle.text.specs.Text.{numberFrom}
 abbrev pub lineSettings : List ℕ → Settings
 lineSettings line = record {
   dealer = byteAt line (dealerPlace current);
-  span = numberFrom line (spanPlace current);
-  default = numberFrom line (defaultPlace current);
+  span = numberFrom current line (spanPlace current);
+  default = numberFrom current line (defaultPlace current);
   depth = byteAt line (depthPlace current);
 }

@@ -11,7 +11,7 @@ use sheet::head::Head;
 ghost use mathlib.Core.Path.{_≡_};
 ghost use Prim.Native.Nat.{_≤_};
 ghost use lib.ListN.{length, replicate};
-ghost use Rattle.codec.specs.Codec.{current};
+ghost use Rattle.codec.specs.Codec.{current, valueSize};
 ghost use Rattle.protocol.specs.Limits.{frameRoom};
 ghost use Rattle.protocol.specs.Rounds.{boardWith};
 ghost use Rattle.stage.specs.Stage.{boardOn};
@@ -19,8 +19,8 @@ ghost use Rattle.outgoing.specs.Outgoing.{dealtFrame, frameFrom, healthy
 
 // The dealer's frame; its length.
 fn dealer_frame(head: Head, frame: &mut [u8]) -> usize
-    requires { ⌜ 1 ≤ length (now frame) ⌝ }
-    ensures { λ k. ⌜ Written k 1 (now (frame .exit)) (dealtFrame head) ⌝ }
+    requires { ⌜ valueSize current ≤ length (now frame) ⌝ }
+    ensures { λ k. ⌜ Written k (valueSize current) (now (frame .exit)) (dealtFrame head) ⌝ }
 {
     let plan = head.plan;
     match deal(plan, head.word) {

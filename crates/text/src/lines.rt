@@ -5,6 +5,7 @@ ghost use mathlib.Core.Path.{_≡_};
 ghost use Prim.Native.Nat.{_-_};
 ghost use lib.Dec.{eqb};
 ghost use lib.ListN.{length, getD, drop};
+ghost use Rattle.codec.specs.Codec.{current};
 ghost use Rattle.sets.specs.Search.{first};
 ghost use Rattle.text.specs.Text.{numberFrom};
 
@@ -34,7 +35,7 @@ pub fn values_of(line: &[u8]) -> &[u8]
 
 // The number that stands from byte number k of the line's bytes on, as wide as a value.
 pub fn number_at(line: &[u8], k: usize) -> Value
-    ensures { λ r. ⌜ r ≡ numberFrom (now (line .entry)) k ⌝ }
+    ensures { λ r. ⌜ r ≡ numberFrom current (now (line .entry)) k ⌝ }
 {
     byte_at(line, k)
 }
