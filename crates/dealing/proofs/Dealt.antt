@@ -24,8 +24,8 @@ module _ (p : Plan) (v : ℕ) where
   unfolding dealing
   deal-high h e = (taken-first (judged p) valued e ∙ rw h refl, taken-first (judged p) _ e ∙ rw h refl)
 
-  deal-low : leb (p .span) v ≡ false → judged p .number ≡ 0 → (andThen (judged p) valued ≡ taken []) × (dealing current p v ≡ taken (v ∷ []))
-  unfolding dealing encode
+  deal-low : leb (p .span) v ≡ false → judged p .number ≡ 0 → (andThen (judged p) valued ≡ taken []) × (dealing current p v ≡ taken (encode current (v ∷ [])))
+  unfolding dealing
   deal-low h e = (taken-first (judged p) valued e ∙ rw h refl, taken-first (judged p) _ e ∙ rw h refl)
 
   deal-bad : judged p .number ≢ 0 → (andThen (judged p) valued ≡ judged p) × (dealing current p v ≡ judged p)
@@ -40,7 +40,7 @@ module _ (p : Plan) (v : ℕ) where
       (λ h. let (x, y) = deal-low h (eqb-true (judged p .number) 0 g) in absurd (ne (ap (λ (z : Outcome). z .number) (e ∙ x)))))
       (λ g. let (x, y) = deal-bad (eqb-false (judged p .number) 0 g) in e ∙ x ∙ sym y)
 
-  pub deal-taken : taken [] ≡ andThen (judged p) valued → taken (v ∷ []) ≡ dealing current p v
+  pub deal-taken : taken [] ≡ andThen (judged p) valued → taken (encode current (v ∷ [])) ≡ dealing current p v
   deal-taken e =
       let g = both-taken (judged p) valued (ap (λ (z : Outcome). z .number) (sym e)) .0 in
       cases (leb (p .span) v)

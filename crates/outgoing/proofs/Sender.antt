@@ -20,9 +20,9 @@ use Rattle.sheet.specs.declared.head.Head.{Head}
 use Rattle.stage.specs.Stage.{Stage, noRecord, boardOn}
 use Rattle.outgoing.specs.Outgoing.{dealtFrame, frameFrom, healthyFrame}
 
-pub dealt-taken : (h : Head) (v : ℕ) → taken (v ∷ []) ≡ dealing current (h .plan) (h .word) → v ∷ [] ≡ dealtFrame h
+pub dealt-taken : (h : Head) (f : List ℕ) → taken f ≡ dealing current (h .plan) (h .word) → f ≡ dealtFrame h
 unfolding dealtFrame isTaken
-dealt-taken h v e = ap (λ o. cond (isTaken o) (o .values) []) e
+dealt-taken h f e = ap (λ o. cond (isTaken o) (o .values) []) e
 
 pub dealt-refused : (h : Head) → dealing current (h .plan) (h .word) .number ≢ 0 → [] ≡ dealtFrame h
 unfolding dealtFrame isTaken

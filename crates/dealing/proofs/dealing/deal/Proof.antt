@@ -2,6 +2,7 @@
 -- Assumes nothing.
 use mathlib.Core.Path.{sym, ap, ap₂, _∙_}
 use borrow.Author.Needs.{needs}
+use Rattle.codec.specs.Codec.{encode}
 use Rattle.refusals.specs.Outcome.{refusal, verdict, andThen}
 use Rattle.refusals.proofs.Outcomes.{refusal-number}
 use Rattle.protocol.specs.Answers.{dealtSays}
@@ -20,7 +21,7 @@ returns c =
     (ap verdict (sym (why .1)) ∙ judged .and-then .ensures ∙ ap₂ andThen (first .judge .ensures) (judged .before .judge-value .ensures)) (refusal-number (why .0 .0))
 
 returns-2 : tie.Need-returns-2
-unfolding dealtSays verdict
+unfolding dealtSays verdict encode
 returns-2 c =
     let judged = c .before .before in
     let first = judged .before .before in

@@ -1,6 +1,7 @@
 -- `dealer_frame` meets its contract.
 -- Assumes nothing.
 use mathlib.Core.Path.{sym, ap, _∙_}
+use mathlib.Core.List.{[], _∷_}
 use native.Mathlib.Omega.{arith}
 use lib.Seq.{take-suc-set}
 use Rattle.refusals.proofs.Outcomes.{refusal-number}
@@ -18,7 +19,7 @@ returns c =
     let a = start .args in
     let v = c .before .v .given .0 .0 in
     let e = ap dealtSays (sym (c .before .v .given .1)) ∙ at-deal .deal .ensures in
-    record { fits = omega arith; front = take-suc-set (a.frame .now) 0 v (start .pre) ∙ dealt-taken a.head v e }
+    record { fits = omega arith; front = take-suc-set (a.frame .now) 0 v (start .pre) ∙ dealt-taken a.head (v ∷ []) e }
 
 returns-2 : tie.Need-returns-2
 unfolding dealtSays
