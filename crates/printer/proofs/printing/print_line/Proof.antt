@@ -9,7 +9,7 @@ use borrow.Author.Needs.{needs}
 use Rattle.codec.specs.Codec.{current}
 use Rattle.hex.specs.Hex.{hexByte}
 use Rattle.sheet.specs.Playing.{hexValue}
-use Rattle.printer.proofs.Stores.{line-stores}
+use Rattle.printer.proofs.Stores.{listAt, placeAt, newlineAt, line-stores}
 use Rattle.printer.proofs.printing.print_line.Statement.{statement}
 use Rattle.printer.proofs.printing.print_line.Tie as tie
 
@@ -27,7 +27,7 @@ same-length c =
     let third = at-print-byte2 .print-byte2 in
     let second = at-print-value .print-value in
     let first = at-print-byte .print-byte in
-    length-set (fourth .last .0) (start .args .at + 8) _ ∙ fourth .kept .0 ∙ third .kept .0 ∙ second .kept .0 ∙ first .kept .0
+    length-set (fourth .last .0) (start .args .at + newlineAt current) _ ∙ fourth .kept .0 ∙ third .kept .0 ∙ second .kept .0 ∙ first .kept .0
 
 returns : tie.Need-returns
 returns c =
@@ -44,9 +44,9 @@ returns c =
     let third = at-print-byte2 .print-byte2 .ensures in
     let second = at-print-value .print-value .ensures in
     let first = at-print-byte .print-byte .ensures in
-    let listed = third ∙ ap (λ o. sets o (a.at + 4) (hexByte a.list [])) (second ∙ ap (λ o. sets o (a.at + 2) (hexValue current a.decision [])) first) in
-    ap (λ o. set o (a.at + 8) 10) (fourth ∙ ap (λ o. sets o (a.at + 6) (hexByte a.place [])) listed)
-    ∙ line-stores (a.out .now) a.at a.board a.decision a.list a.place
+    let listed = third ∙ ap (λ o. sets o (a.at + listAt current) (hexByte a.list [])) (second ∙ ap (λ o. sets o (a.at + 2) (hexValue current a.decision [])) first) in
+    ap (λ o. set o (a.at + newlineAt current) 10) (fourth ∙ ap (λ o. sets o (a.at + placeAt current) (hexByte a.place [])) listed)
+    ∙ line-stores current (a.out .now) a.at a.board a.decision a.list a.place
 
 pub print-line-spec : {M : Type 1} → statement M
 print-line-spec =
