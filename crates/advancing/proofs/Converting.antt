@@ -19,7 +19,7 @@ use Rattle.resolving.proofs.Cells.{all-drop}
 use Rattle.frames.specs.Nodes.{Standing}
 
 -- A board that stands in a round can convert.
-pub convertible : {p : Plan} {holders : List ℕ} {i : ℕ} {k : Round} {cells : List ℕ} → Standing p holders i k → p .span ≤ 255 → cellCount (p .n) ≤ length cells
+pub convertible : {p : Plan} {holders : List ℕ} {i : ℕ} {k : Round} {cells : List ℕ} → Standing p holders i k → p .span ≤ blank current → cellCount (p .n) ≤ length cells
     → Convertible p holders i cells
 convertible {p} s most room = record {
   accepted = s .accepted;

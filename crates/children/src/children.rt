@@ -12,7 +12,7 @@ ghost use Rattle.voting.specs.Worth.{childTable};
 ghost use Rattle.children.specs.Standing.{Beside, Explainable};
 ghost use Rattle.children.specs.Standing.{standingFrom, passesAt};
 
-// The cells of a node's children, which stand side by side from `from`, by board; FF for a board of the node.
+// The cells of a node's children, which stand side by side from `from`, by board; the mark for a board of the node.
 fn child_cells(n: u8, boards: u8, from: usize, cells: &[Value]) -> [Value; 8]
     requires { ⌜ Beside n boards from (now cells) ⌝ }
     ensures { λ t. ⌜ t ≡ childTable (standingFrom (now (cells .entry)) from boards) boards n ⌝ }

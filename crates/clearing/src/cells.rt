@@ -10,7 +10,7 @@ ghost use Rattle.tree.specs.Places.{cellCount};
 ghost use Rattle.protocol.specs.Rounds.{rootOnly};
 ghost use Rattle.clearing.specs.Clearing.{Clearable};
 
-// All cells of a board hold FF; surplus cells stay.
+// All cells of a board hold the mark, no value; surplus cells stay.
 pub fn clear(plan: Plan, cells: &mut [Value])
     requires { ⌜ Clearable plan (now cells) ⌝ }
     ensures { λ _. ⌜ now (cells .exit) ≡ replicate (cellCount (plan .n)) (blank current) ++ drop (cellCount (plan .n)) (now (cells .entry)) ⌝ }
@@ -23,7 +23,7 @@ pub fn clear(plan: Plan, cells: &mut [Value])
     }
 }
 
-// The root becomes the first cell, all other cells of the board hold FF.
+// The root becomes the first cell, all other cells of the board hold the mark.
 pub fn keep_root(plan: Plan, root: Value, cells: &mut [Value])
     requires { ⌜ Clearable plan (now cells) ⌝ }
     ensures { λ _. ⌜ now (cells .exit) ≡ rootOnly current (plan .n) root (now (cells .entry)) ⌝ }

@@ -10,7 +10,7 @@ pub data Width : Type 0 where
   one : Width
   two : Width
 
--- The width of the code's values. 01: "one byte a value".
+-- The width of the code's values. 01: "In round 1 the dealer sends one byte"; 02 g makes it two.
 abbrev pub current : Width
 current = one
 
@@ -19,12 +19,12 @@ abbrev pub valueSize : Width → ℕ
 valueSize one = 1
 valueSize two = 2
 
--- 01: "A place with no value yet, or no node, holds FF"; in two bytes it holds FFFF.
+-- 01: "A place with no value yet, or no node, holds FF"; 02 g: "FFFF marks a cell without a value."
 abbrev pub blank : Width → ℕ
 blank one = 0xFF
 blank two = 0xFFFF
 
--- The bytes of values, the high byte first.
+-- The bytes of values. 02 g: "written high byte first".
 unfoldable pub encode : Width → List ℕ → List ℕ
 encode one vs = vs
 encode two [] = []
@@ -36,7 +36,7 @@ pairs [] = []
 pairs (h ∷ []) = []
 pairs (h ∷ (l ∷ f)) = (h * 256 + l) ∷ pairs f
 
--- The values of bytes. An odd count of bytes writes no values of two bytes.
+-- The values of bytes. 02 g: "A frame of an odd length is a misfit": in two bytes it has no values, and every due frame has some.
 unfoldable pub decode : Width → List ℕ → List ℕ
 decode one f = f
 decode two f = cond (eqb (length f % 2) 0) (pairs f) []

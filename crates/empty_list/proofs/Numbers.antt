@@ -16,6 +16,7 @@ use Rattle.sets.specs.Sets.{member, within, boards}
 use Rattle.sets.specs.Structure.{tolerated}
 use Rattle.sets.proofs.Tests.{cases}
 use Rattle.refusals.specs.Outcome.{Outcome, taken, refused, refusedAt, andThen}
+use Rattle.refusals.proofs.Outcomes.{either-other, both-other}
 use Rattle.covering.specs.Cover.{covered, places, covering}
 use Rattle.admission.specs.Calls.{strays, admitting}
 use Rattle.settings.specs.declared.settings.Settings.{Settings}
@@ -32,6 +33,7 @@ use Rattle.protocol.specs.Calls.{judgeNumber, judgeOther, judgeBoard, judgeCell
 use Rattle.sheet.specs.declared.head.Head.{Head}
 use Rattle.sheet.specs.Sheet.{Line, lines, lineBytes, headLength, headBoards, headCount, headSets, headSettings, headFaulty, headWord, headOf, Frame, frameLine, goodFrame, Reading, readFrames, addFrame, judgeHead, readHead, readLines, reading, refusedReading, wrongAt}
 use Rattle.sheet.specs.Playing.{Play, refusedPlay, playHead, playing}
+use Rattle.protocol.proofs.Judgement.{open-other}
 use Rattle.sheet.proofs.Sheets.{frames-text, frames-wrong, frames-right, head-right, head-wrong, lines-text, lines-head}
 use Rattle.empty_list.specs.Number2.{NeverTwo}
 
@@ -39,31 +41,22 @@ use Rattle.empty_list.specs.Number2.{NeverTwo}
 abbrev Other : Outcome → Type 0
 Other o = o .number ≢ 2
 
--- An answer by a test.
-either : (b : Bool) (x y : Outcome) → Other x → Other y → Other (cond b x y)
-either true x y u v = u
-either false x y u v = v
-
-in-order : (x y : Outcome) → Other x → Other y → Other (andThen x y)
-unfolding andThen
-in-order x y u v = either (eqb (x .number) 0) y x v u
-
 admits : (n count : ℕ) (sets : List ℕ) → Other (admitting n count sets)
 unfolding admitting covering
 admits n count sets =
-    either (eqb n 0 || ltb 7 n) (refused 1) _ (omega arith)
-    (either (ltb 32 count) (refused 3) _ (omega arith)
-    (either (strays n sets) (refused 4) _ (omega arith)
-    (either (covered n sets) (refusedAt (places n sets)) (taken []) (omega arith) (omega arith))))
+    either-other (eqb n 0 || ltb 7 n) (refused 1) _ (omega arith)
+    (either-other (ltb 32 count) (refused 3) _ (omega arith)
+    (either-other (strays n sets) (refused 4) _ (omega arith)
+    (either-other (covered n sets) (refusedAt (places n sets)) (taken []) (omega arith) (omega arith))))
 
 plans : (n count : ℕ) (sets : List ℕ) (s : Settings) → Other (planning n count sets s)
 unfolding planning judgeSettings
 plans n count sets s =
-    in-order (admitting n count sets) _ (admits n count sets)
-    (either (leb n (s .dealer)) (refused 6) _ (omega arith)
-    (either (ltb (s .span) 2) (refused 7) _ (omega arith)
-    (either (leb (s .span) (s .default)) (refused 26) _ (omega arith)
-    (either (not (isDepth (s .depth))) (refused 8) (taken []) (omega arith) (omega arith)))))
+    both-other (admitting n count sets) _ (admits n count sets)
+    (either-other (leb n (s .dealer)) (refused 6) _ (omega arith)
+    (either-other (ltb (s .span) 2) (refused 7) _ (omega arith)
+    (either-other (leb (s .span) (s .default)) (refused 26) _ (omega arith)
+    (either-other (not (isDepth (s .depth))) (refused 8) (taken []) (omega arith) (omega arith)))))
 
 judges : (p : Plan) → Other (judged p)
 unfolding judged
@@ -71,56 +64,52 @@ judges p = plans (p .n) (p .count) (listed p) (settingsOf p)
 
 judges-cells : (p : Plan) (cells : List ℕ) → Other (judgeCells p cells)
 unfolding judgeCells
-judges-cells p cells = either (ltb (length cells) (cellCount (p .n))) (refused 11) (taken []) (omega arith) (omega arith)
+judges-cells p cells = either-other (ltb (length cells) (cellCount (p .n))) (refused 11) (taken []) (omega arith) (omega arith)
 
 judges-record : (r : Record) → Other (judgeRecord r)
 unfolding judgeRecord
-judges-record r = either (goodRecord r) (taken []) (refused 12) (omega arith) (omega arith)
+judges-record r = either-other (goodRecord r) (taken []) (refused 12) (omega arith) (omega arith)
 
 opens : (b : Board) → Other (judgeOpen b)
-unfolding judgeOpen
-opens b =
-    in-order (judgeRecord (b .rec)) _ (judges-record (b .rec))
-    (in-order (judgeCells (b .rec .plan) (b .cells)) _ (judges-cells (b .rec .plan) (b .cells))
-    (either (b .rec .decided) (refused 13) (taken []) (omega arith) (omega arith)))
+opens b = open-other b 2 (omega arith) (omega arith) (omega arith) (omega arith)
 
 begins : (w : Width) (p : Plan) (i : ℕ) (cells : List ℕ) → Other (beginning w p i cells .answer)
 unfolding beginning judgeBeginning judgeBoard judgeNumber judgeOther
 begins w p i cells =
-    in-order (judged p) _ (judges p)
-    (in-order (judgeBoard p i) (judgeCells p cells)
-    (in-order (judgeNumber p i) (judgeOther p i)
-    (either (leb (p .n) i) (refused 9) (taken []) (omega arith) (omega arith))
-    (either (eqb i (p .dealer)) (refused 10) (taken []) (omega arith) (omega arith)))
+    both-other (judged p) _ (judges p)
+    (both-other (judgeBoard p i) (judgeCells p cells)
+    (both-other (judgeNumber p i) (judgeOther p i)
+    (either-other (leb (p .n) i) (refused 9) (taken []) (omega arith) (omega arith))
+    (either-other (eqb i (p .dealer)) (refused 10) (taken []) (omega arith) (omega arith)))
     (judges-cells p cells))
 
 deals : (w : Width) (p : Plan) (v : ℕ) → Other (dealing w p v)
 unfolding dealing
-deals w p v = in-order (judged p) _ (judges p) (either (leb (p .span) v) (refused 18) (taken (encode w (v ∷ []))) (omega arith) (omega arith))
+deals w p v = both-other (judged p) _ (judges p) (either-other (leb (p .span) v) (refused 18) (taken (encode w (v ∷ []))) (omega arith) (omega arith))
 
 receives : (b : Board) (q : ℕ) (f : List ℕ) → Other (receiving b q f .answer)
 unfolding receiving taking judgeReceiving
 receives b q f =
     let r = b .rec in
-    in-order (judgeOpen b) _ (opens b)
-    (either (due (r .plan) q (r .board) (r .round)) _ (refused 14) (either (member q (r .marks)) (refused 15) (taken []) (omega arith) (omega arith)) (omega arith))
+    both-other (judgeOpen b) _ (opens b)
+    (either-other (due (r .plan) q (r .board) (r .round)) _ (refused 14) (either-other (member q (r .marks)) (refused 15) (taken []) (omega arith) (omega arith)) (omega arith))
 
 sends : (b : Board) (out : List ℕ) → Other (sending b out .answer)
 unfolding sending judgeSending
 sends b out =
     let r = b .rec in
     let size = length (wireOf b) in
-    in-order (judgeOpen b) _ (opens b)
-    (either (any (λ i. due (r .plan) (r .board) i (r .round)) (r .plan .n)) _ (refused 16)
-    (either (ltb (length out) size) (refused 17) (taken (size ∷ [])) (omega arith) (omega arith)) (omega arith))
+    both-other (judgeOpen b) _ (opens b)
+    (either-other (any (λ i. due (r .plan) (r .board) i (r .round)) (r .plan .n)) _ (refused 16)
+    (either-other (ltb (length out) size) (refused 17) (taken (size ∷ [])) (omega arith) (omega arith)) (omega arith))
 
 closes : (b : Board) → Other (closing b .answer)
 unfolding closing
-closes b = in-order (judgeOpen b) (taken (closedValues (close b .rec))) (opens b) (omega arith)
+closes b = both-other (judgeOpen b) (taken (closedValues (close b .rec))) (opens b) (omega arith)
 
 decides : (r : Record) → Other (deciding r)
 unfolding deciding
-decides r = in-order (judgeRecord r) _ (judges-record r) (either (r .decided) (taken (r .decision ∷ [])) (refused 19) (omega arith) (omega arith))
+decides r = both-other (judgeRecord r) _ (judges-record r) (either-other (r .decided) (taken (r .decision ∷ [])) (refused 19) (omega arith) (omega arith))
 
 -- A sheet, line by line.
 abbrev Read : Reading → Type 0
@@ -149,11 +138,11 @@ heads w bytes =
     let word = cond (leb (settings .span) (headWord w bytes)) (refused 18) (taken []) in
     let faulty = cond (within f (boards n) && tolerated sets f) (taken []) (refused 23) in
     let plan = planning n (headCount w bytes) sets settings in
-    either short (refused 22) (andThen plan (andThen word faulty)) (omega arith)
-    (in-order plan (andThen word faulty) (plans n (headCount w bytes) sets settings)
-    (in-order word faulty
-    (either (leb (settings .span) (headWord w bytes)) (refused 18) (taken []) (omega arith) (omega arith))
-    (either (within f (boards n) && tolerated sets f) (taken []) (refused 23) (omega arith) (omega arith))))
+    either-other short (refused 22) (andThen plan (andThen word faulty)) (omega arith)
+    (both-other plan (andThen word faulty) (plans n (headCount w bytes) sets settings)
+    (both-other word faulty
+    (either-other (leb (settings .span) (headWord w bytes)) (refused 18) (taken []) (omega arith) (omega arith))
+    (either-other (within f (boards n) && tolerated sets f) (taken []) (refused 23) (omega arith) (omega arith))))
 
 reads-head : (w : Width) (bytes : List ℕ) (ls : List Line) → Read (readHead w bytes ls)
 unfolding refusedReading wrongAt

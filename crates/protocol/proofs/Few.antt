@@ -10,10 +10,9 @@ use native.Mathlib.Nat.{mul-le-mul-right}
 use lib.Dec.{eqb, leb}
 use lib.ListN.{length, take, length-append, length-map}
 use lib.Seq.{take-all, length-take-le}
-use borrow.Author.Tests.{eq-eqb, ne-eqb, leb-true, leb-false, le-ltb}
+use borrow.Author.Tests.{eq-eqb, ne-eqb, leb-true, leb-false}
 use Rattle.codec.specs.Codec.{Width, one, two, valueSize, decode}
 use Rattle.codec.proofs.Codec.{length-encode, decode-past}
-use Rattle.sets.specs.Search.{any}
 use Rattle.sets.specs.Sets.{member}
 use Rattle.sets.proofs.Tests.{cases, or-right}
 use Rattle.sets.proofs.Search.{any-of}
@@ -21,7 +20,6 @@ use Rattle.plan.specs.declared.plan.Plan.{Plan}
 use Rattle.schedule.specs.declared.rounds.Round.{Round}
 use Rattle.refusals.specs.Outcome.{taken}
 use Rattle.plan.specs.Calls.{judged}
-use Rattle.refusals.proofs.Outcomes.{taken-first}
 use Rattle.tree.specs.Labels.{Label, occurs, childrenFrom, children, childrenOf, labels}
 use Rattle.tree.specs.Places.{levelSize, ordinal}
 use Rattle.tree.proofs.Entries.{getD-mem}
@@ -33,10 +31,10 @@ use Rattle.protocol.specs.declared.records.Slot.{Slot}
 use Rattle.protocol.specs.Listing.{asSet}
 use Rattle.protocol.specs.Nodes.{filter, internal, nodes, inner, carried, sent, due, frame}
 use Rattle.protocol.specs.Rounds.{Board, counted, receive}
-use Rattle.protocol.specs.Calls.{isTaken, judgeOpen, judgeReceiving, taking, receiving, frameOf, wireOf, judgeSending, sending}
+use Rattle.protocol.specs.Calls.{Output, isTaken, judgeReceiving, taking, receiving, frameOf, wireOf, sending}
 use Rattle.protocol.proofs.Nodes.{inner-inv, node-label}
 use Rattle.protocol.proofs.Judgement.{is-taken, plan-facts, Open, open-taken}
-use Rattle.protocol.proofs.Taken.{receiving-facts, taking-refused, due-sender}
+use Rattle.protocol.proofs.Taken.{receiving-facts, taking-refused, due-sender, someDue, sending-written}
 
 -- Filters.
 pub filter-length : (f : Label → Bool) (αs : List Label) → length (filter f αs) ≤ length αs
@@ -194,9 +192,7 @@ room-for one k l = omega arith
 room-for two k l = omega arith
 
 -- A board that is open and has a frame due to some board writes it where there is room for a frame.
-pub sends : (b : Board) (out : List ℕ) → Open b → frameRoom (b .width) ≤ length out → any (λ i. due (b .rec .plan) (b .rec .board) i (b .rec .round)) (b .rec .plan .n) ≡ true
-    → sending b out .answer ≡ taken (length (wireOf b) ∷ [])
-unfolding sending judgeSending
+pub sends : (b : Board) (out : List ℕ) → Open b → frameRoom (b .width) ≤ length out → someDue b ≡ true → sending b out .answer ≡ taken (length (wireOf b) ∷ [])
 sends b out o room d =
     let r = b .rec in
     let size : length (frameOf b) ≡ length (sent (r .plan) (r .board) (r .board) (r .round)) =
@@ -204,7 +200,7 @@ sends b out o room d =
     let most = few (r .plan) (o .good .plan-good) (r .board) (r .board) (r .round) (o .good .below) in
     let bytes : length (wireOf b) ≡ valueSize (b .width) * length (frameOf b) = unfold wireOf in length-encode (b .width) (frameOf b) in
     let fits = room-for (b .width) (length (frameOf b)) (omega arith) in
-    taken-first (judgeOpen b) _ (ap (λ x. x .number) (open-taken b o)) ∙ rw (d, le-ltb (length out) (length (wireOf b)) (omega arith)) refl
+    ap (λ (x : Output). x .answer) (sending-written b out (ap (λ x. x .number) (open-taken b o)) d (omega arith))
 
 -- Where it writes none, nothing that is handed in under its number is taken in that round.
 pub unsent : (b c : Board) (out f : List ℕ) → Open b → frameRoom (b .width) ≤ length out → c .rec .plan ≡ b .rec .plan → c .rec .round ≡ b .rec .round

@@ -1,7 +1,7 @@
 -- What a record that passes number 12 meets, and what a call that is taken has passed.
 -- Assumes nothing.
 use Prim.Native.Nat.{ℕ, _≤_, _<_, _^_}
-use mathlib.Core.Path.{_≡_, ap, refl}
+use mathlib.Core.Path.{_≡_, sym, ap, refl}
 use mathlib.Core.Logic.{_≢_, ⊎-elim, _↔_}
 use mathlib.Core.Bool.{Bool, true, false, not, _&&_}
 use mathlib.Core.List.{List, []}
@@ -15,7 +15,7 @@ use Rattle.sets.proofs.Search.{any-true, any-false}
 use Rattle.sets.proofs.Tests.{cases, clash, is-false, and-l, and-r, and-true, or-true, or-left, or-right, not-t, not-f, true-not}
 use Rattle.sets.proofs.Member.{within-boards, boards-within}
 use Rattle.refusals.specs.Outcome.{Outcome, taken, refused, andThen}
-use Rattle.refusals.proofs.Outcomes.{passed, both-taken}
+use Rattle.refusals.proofs.Outcomes.{passed, both-taken, either-other, both-other}
 use Rattle.plan.specs.declared.plan.Plan.{Plan}
 use Rattle.plan.specs.Listed.{listed}
 use Rattle.plan.specs.Calls.{judged, settingsOf}
@@ -224,3 +224,13 @@ open-facts b e =
 pub open-taken : (b : Board) → Open b → judgeOpen b ≡ taken []
 unfolding judgeOpen andThen
 open-taken b o = rw (record-taken (b .rec) (o .good), cells-taken (b .rec .plan) (b .cells) (o .room), o .undecided)
+
+-- What is judged first has no number but 12, 11 and 13.
+pub open-other : (b : Board) (k : ℕ) → k ≢ 0 → k ≢ 11 → k ≢ 12 → k ≢ 13 → judgeOpen b .number ≢ k
+unfolding judgeOpen judgeRecord judgeCells
+open-other b k none cells rec decided =
+    let r = b .rec in
+    both-other (judgeRecord r) _ (either-other (goodRecord r) (taken []) (refused 12) (λ e. none (sym e)) (λ e. rec (sym e)))
+    (both-other (judgeCells (r .plan) (b .cells)) _
+    (either-other (ltb (length (b .cells)) (cellCount (r .plan .n))) (refused 11) (taken []) (λ e. cells (sym e)) (λ e. none (sym e)))
+    (either-other (r .decided) (refused 13) (taken []) (λ e. decided (sym e)) (λ e. none (sym e))))

@@ -3,22 +3,22 @@
 use Prim.Native.Nat.{ℕ, _≤_, _<_}
 use mathlib.Core.Path.{_≡_, refl, sym, _∙_, ap₂, ap}
 use mathlib.Core.List.{List, _∷_, _++_, []}
-use mathlib.Core.Bool.{true, false, not, _&&_}
+use mathlib.Core.Bool.{Bool, true, false, not, _&&_}
 use native.Mathlib.Omega.{arith}
 use lib.ListN.{length, take, drop, getD}
 use lib.Dec.{ltb, eqb}
 use lib.Seq.{take-at}
-use borrow.Author.Tests.{ltb-true, ltb-false}
+use borrow.Author.Tests.{ltb-true, ltb-false, lt-ltb, le-ltb}
 use Rattle.sets.proofs.Tests.{cases, and-l}
 use Rattle.sets.specs.Sets.{member}
 use Rattle.sets.specs.Search.{any}
-use Rattle.refusals.specs.Outcome.{Outcome, taken, refused}
+use Rattle.refusals.specs.Outcome.{Outcome, taken, refused, andThen}
 use Rattle.refusals.proofs.Outcomes.{taken-first, both-taken, passed}
 use Rattle.plan.specs.declared.plan.Plan.{Plan}
 use Rattle.schedule.specs.declared.rounds.Round.{Round}
 use Rattle.schedule.specs.Schedule.{rounds}
 use Rattle.protocol.specs.Rounds.{Board, receive, nextRound, convert, close}
-use Rattle.protocol.specs.Calls.{judgeOpen, isTaken, wireOf, judgeSending, sending, taking, judgeReceiving, closing}
+use Rattle.protocol.specs.Calls.{Output, judgeOpen, isTaken, wireOf, judgeSending, sending, taking, judgeReceiving, closing}
 use Rattle.protocol.specs.Nodes.{sent, due}
 use Rattle.protocol.proofs.Judgement.{open-facts, Open, taken-is}
 
@@ -55,6 +55,32 @@ pub closing-refused : (b : Board) → isTaken (judgeOpen b) ≡ false → closin
 unfolding closing
 closing-refused b e = rw e
 
+-- What a writing leaves, by what it meets first.
+abbrev pub someDue : Board → Bool
+someDue b = let r = b .rec in any (λ i. due (r .plan) (r .board) i (r .round)) (r .plan .n)
+
+abbrev pub output : Outcome → List ℕ → Output
+output o out = record { answer = o; out = out }
+
+module _ (b : Board) (out : List ℕ) where
+  pub sending-closed : isTaken (judgeOpen b) ≡ false → sending b out ≡ output (judgeOpen b) out
+  unfolding sending judgeSending andThen isTaken
+  sending-closed e = rw (e, e)
+
+  module _ (e : judgeOpen b .number ≡ 0) where
+    pub sending-nothing : someDue b ≡ false → sending b out ≡ output (refused 16) out
+    unfolding sending judgeSending isTaken
+    sending-nothing x = rw (taken-first (judgeOpen b) _ e, x) refl
+
+    pub sending-short : someDue b ≡ true → length out < length (wireOf b) → sending b out ≡ output (refused 17) out
+    unfolding sending judgeSending isTaken
+    sending-short x l = rw (taken-first (judgeOpen b) _ e, x, lt-ltb (length out) (length (wireOf b)) l) refl
+
+    pub sending-written : someDue b ≡ true → length (wireOf b) ≤ length out
+        → sending b out ≡ output (taken (length (wireOf b) ∷ [])) (wireOf b ++ drop (length (wireOf b)) out)
+    unfolding sending judgeSending isTaken
+    sending-written x l = rw (taken-first (judgeOpen b) _ e, x, le-ltb (length out) (length (wireOf b)) l) refl
+
 -- A writing that is taken is made by an open board, fits the output and gives the board's frame.
 pub sending-open : (b : Board) (out : List ℕ) → sending b out .answer .number ≡ 0 → Open b
 unfolding sending judgeSending
@@ -65,20 +91,17 @@ pub record Gives (b : Board) (out : List ℕ) (k : ℕ) : Type 0 where
   pub frame : take k (sending b out .out) ≡ wireOf b
 
 pub sending-gives : (b : Board) (out : List ℕ) (k : ℕ) → sending b out .answer ≡ taken (k ∷ []) → Gives b out k
-unfolding sending judgeSending isTaken
+unfolding sending judgeSending
 sending-gives b out k e =
-    let r = b .rec in
     let f = wireOf b in
-    let some-due = any (λ i. due (r .plan) (r .board) i (r .round)) (r .plan .n) in
     let (e1, e2) = both-taken (judgeOpen b) _ (ap (λ o. o .number) e) in
-    let on : some-due ≡ true = cases some-due (λ x. x) (λ x. absurd (let z : 16 ≡ 0 = rw x at e2 in let y : ⊥ = omega arith in y)) in
-    let fits : ltb (length out) (length f) ≡ false = passed (ltb (length out) (length f)) (refused 17) _ (omega arith) (rw on at e2) .0 in
-    let answer : judgeSending b out ≡ taken (length f ∷ []) = taken-first (judgeOpen b) _ e1 ∙ rw (on, fits) refl in
-    let size : length f ≡ k = ap (λ (o : Outcome). getD (o .values) 0 0) (sym answer ∙ e) in
-    let written : sending b out .out ≡ f ++ drop (length f) out = rw answer refl in
+    let on : someDue b ≡ true = cases (someDue b) (λ x. x) (λ x. absurd (let z : 16 ≡ 0 = rw x at e2 in let y : ⊥ = omega arith in y)) in
+    let fits = ltb-false (length out) (length f) (passed (ltb (length out) (length f)) (refused 17) _ (omega arith) (rw on at e2) .0) in
+    let left = sending-written b out e1 on fits in
+    let size : length f ≡ k = ap (λ (o : Outcome). getD (o .values) 0 0) (sym (ap (λ (o : Output). o .answer) left) ∙ e) in
     record {
-      fits = omega (arith, ltb-false (length out) (length f) fits);
-      frame = ap₂ take (sym size) written ∙ take-at f (drop (length f) out) (length f) refl;
+      fits = omega arith;
+      frame = ap₂ take (sym size) (ap (λ (o : Output). o .out) left) ∙ take-at f (drop (length f) out) (length f) refl;
     }
 
 -- A closing is taken exactly if the board is open.

@@ -107,7 +107,7 @@ voidRecord = record {
   decision = 0;
 }
 
--- 01, 'Beginning a board': 1 to 7, 26 (02 b), 8, then 9, 10, 11. Its cells hold FF; surplus cells are not touched.
+-- 01, 'Beginning a board': 1 to 7, 26 (02 b), 8, then 9, 10, 11. Its cells hold no value; surplus cells are not touched.
 unfoldable pub judgeBeginning : Plan → ℕ → List ℕ → Outcome
 judgeBeginning p i cells = andThen (judged p) (andThen (judgeBoard p i) (judgeCells p cells))
 

@@ -10,7 +10,7 @@ sheetMost = 65536
 abbrev pub lineLength : Width → ℕ
 lineLength w = 2 + 2 * valueSize w + 2 + 2 + 1
 
--- 02 c: "the output needs 63 bytes": a line for each of seven boards.
+-- 02 c: "the output needs 63 bytes": a line for each of seven boards; 02 g, in two bytes: "the output needs 77 bytes".
 abbrev pub outputNeeded : Width → ℕ
 outputNeeded w = 7 * lineLength w
 

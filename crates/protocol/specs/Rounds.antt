@@ -26,7 +26,7 @@ pub record Board : Type 0 where
   pub rec : Record
   pub cells : List ℕ
 
--- The board of a width with a record and cells; the code's boards, which have its width; a board with another record and other cells.
+-- The board of a width with a record and cells; the code's boards, of width `current`; a board with another record and other cells.
 abbrev pub boardOf : Width → Record → List ℕ → Board
 boardOf w r cells = record { width = w; rec = r; cells = cells }
 
@@ -76,11 +76,11 @@ gather b =
     detectAllG p i (r .run) k (inner p i (k .0 - 1))
     (record { list = r .list; cells = copyOwn p i k (fillMissing p i k (r .marks) (p .n) (b .cells)) })
 
--- 01: "The resolved root becomes the root cell, all other cells FF". Surplus cells stay.
+-- 01: "The resolved root becomes the root cell, all other cells FF" (02 g: FFFF). Surplus cells stay.
 unfoldable pub rootOnly : Width → ℕ → ℕ → List ℕ → List ℕ
 rootOnly w n root cells = (root ∷ replicate (cellCount n - 1) (blank w)) ++ drop (cellCount n) cells
 
--- The cells of a board that begins. 01: "A place with no value yet, or no node, holds FF". Surplus cells stay.
+-- The cells of a board that begins. 01: "A place with no value yet, or no node, holds FF" (02 g: FFFF). Surplus cells stay.
 abbrev pub cleared : Width → ℕ → List ℕ → List ℕ
 cleared w n cells = replicate (cellCount n) (blank w) ++ drop (cellCount n) cells
 

@@ -1,6 +1,6 @@
 -- What outcomes say: a refusal has a number, and what is judged first goes first.
 -- Assumes nothing.
-use Prim.Native.Nat.{_-_}
+use Prim.Native.Nat.{ℕ, _-_}
 use mathlib.Core.Path.{_≡_, refl, sym, _∙_, ap}
 use mathlib.Core.Logic.{_≢_}
 use mathlib.Core.Bool.{Bool, true, false, cond}
@@ -57,3 +57,12 @@ both-taken o next e =
 pub passed : (b : Bool) (refuse next : Outcome) → refuse .number ≢ 0 → cond b refuse next .number ≡ 0 → (b ≡ false) × (next .number ≡ 0)
 passed true refuse next l e = absurd (l e)
 passed false refuse next l e = (refl, e)
+
+-- An answer without number k: one by a test, and two in order.
+pub either-other : (b : Bool) (x y : Outcome) {k : ℕ} → x .number ≢ k → y .number ≢ k → cond b x y .number ≢ k
+either-other true x y u v = u
+either-other false x y u v = v
+
+pub both-other : (x y : Outcome) {k : ℕ} → x .number ≢ k → y .number ≢ k → andThen x y .number ≢ k
+unfolding andThen
+both-other x y u v = either-other (eqb (x .number) 0) y x v u

@@ -8,7 +8,7 @@ use sets::boards::member;
 use voting::voting::vote;
 ghost use Rattle.resolving.specs.Contracts.{Resolvable, WholeTree, Settles, Roots, node};
 
-// Resolves a node, with `left` levels below it; FF for none.
+// Resolves a node, with `left` levels below it; the mark for none.
 fn resolve_node(
     plan: Plan,
     holders: &[u8],

@@ -7,6 +7,7 @@ use mathlib.Core.List.{List, _∷_, List·Memᴰ}
 use mathlib.Core.Option.{some}
 use native.Mathlib.Omega.{arith}
 use lib.ListN.{length, getD, set}
+use Rattle.codec.specs.Codec.{current, blank}
 use Rattle.sets.specs.Sets.{member}
 use Rattle.sets.specs.Structure.{tolerated}
 use Rattle.plan.specs.declared.plan.Plan.{Plan}
@@ -92,7 +93,7 @@ module _ {p : Plan} {holders : List ℕ} {level node start : ℕ} {cells : List 
       ∙ sym (explained-table p α (byCell p cells α) list (v .accepted) (v .most-values) (v .held) (label-below (p .n) (p .dealer) level α (v .dealer-below) label))
 
 -- At place i of a list of internal nodes of the level before the round's.
-pub visiting : {p : Plan} {holders : List ℕ} {board : ℕ} {k : Round} → Standing p holders board k → p .span ≤ 255
+pub visiting : {p : Plan} {holders : List ℕ} {board : ℕ} {k : Round} → Standing p holders board k → p .span ≤ blank current
     → (nodes : List ℕ) → Nodes p (k .0 - 1) nodes → ((j : ℕ) → j < length nodes → tolerated (listed p) (mask (nodeAt p (k .0 - 1) (getD nodes j 0))) ≡ true)
     → (i start : ℕ) (cells : List ℕ) → i < length nodes → start ≡ startWithin (p .n) (k .0) → cellCount (p .n) ≤ length cells
     → Visit p holders (k .0 - 1) (getD nodes i 0) start cells

@@ -17,12 +17,13 @@ use Rattle.sets.proofs.Search.{any-true, any-of}
 use Rattle.plan.specs.declared.plan.Plan.{Plan}
 use Rattle.schedule.specs.declared.rounds.Round.{Round}
 use Rattle.refusals.specs.Outcome.{Outcome, taken, refused}
-use Rattle.refusals.proofs.Outcomes.{taken-first, refused-first}
+use Rattle.refusals.proofs.Outcomes.{taken-first}
 use Rattle.protocol.specs.declared.records.Record.{Record}
 use Rattle.protocol.specs.Nodes.{read, carried, sent, due, frame}
 use Rattle.protocol.specs.Rounds.{boardWith, Board}
 use Rattle.protocol.specs.Calls.{isTaken, judgeOpen, frameOf, wireOf, judgeSending, sending}
 use Rattle.protocol.proofs.Nodes.{sent-same}
+use Rattle.protocol.proofs.Taken.{output, sending-closed}
 use Rattle.tree.specs.Labels.{Label}
 use Rattle.frames.specs.Nodes.{Standing}
 use Rattle.frames.proofs.Listed.{sent-carried}
@@ -156,15 +157,10 @@ module _ (r : Record) (cells out : List ℕ) where
   abbrev b : Board
   b = boardWith r cells
 
-  judged-closed : judgeOpen b .number ≢ 0 → judgeSending b out ≡ judgeOpen b
-  unfolding judgeSending
-  judged-closed ne = refused-first (judgeOpen b) _ ne
-
   pub send-closed : (o : Outcome) → o ≡ judgeOpen b → o .number ≢ 0 → record { answer = o; out = out } ≡ sending b out
-  unfolding sending isTaken
   send-closed o e ne =
-      let j = judged-closed (λ z. ne (ap (λ (x : Outcome). x .number) e ∙ z)) in
-      rw (j, sym e, ne-eqb (o .number) 0 ne) refl
+      let no : isTaken (judgeOpen b) ≡ false = unfold isTaken in ne-eqb (judgeOpen b .number) 0 (λ z. ne (ap (λ (x : Outcome). x .number) e ∙ z)) in
+      ap (λ x. output x out) e ∙ sym (sending-closed b out no)
 
   judged-open : judgeOpen b .number ≡ 0 → (o : Outcome) (after : List ℕ)
       → Writes (r .plan) (r .board) (r .round) cells out o after → judgeSending b out ≡ o

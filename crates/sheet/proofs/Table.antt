@@ -1,4 +1,4 @@
--- The table of cases holds: one proof, computed from the definitions.
+-- The table of cases holds, for both widths, and that of values above 255: one proof, computed from the definitions.
 -- Assumes nothing.
 use mathlib.Core.Path.{_≡_, refl}
 use mathlib.Core.Bool.{true}
@@ -32,9 +32,21 @@ use Rattle.protocol.specs.Session.{nobody, boardAt, begun, hears, handIn, takeA
 use Rattle.sheet.specs.Sheet.{prepend, lines, lineBytes, headOf, judgeHead, frameLine, earlier, rises, goodFrame, wrongAt, refusedReading, addFrame, readFrames, readHead, readLines, reading}
 use Rattle.hex.specs.Hex.{digit, joinByte, bytesOf, hexDigit, hexByte, hexBytes}
 use Rattle.sheet.specs.Playing.{findFrame, decoded, sheetAdversary, part, replacePart, setting, finalBoards, hexValue, printed, boardLine, printBoards, finalCells, refusedPlay, playHead, playing, refusalText, benchPrints}
-use Rattle.sheet.specs.Cases.{said, log, oneEntry, fivePlan, nodeCount, lentCells, lentOut, played, isAccepted, holds, allHold, example1, valueDigits, headLine, fourHead, head7, head9, bareHead, laterHead, fiveHead, pairHead, dealerLine, misfitLine, secondLine, liarLine, liar9, placedLine, printedLine, decidedPart, alone, fiveParts, sevenLines, sevenParts, caseTable}
+use Rattle.sheet.specs.Cases.{said, log, oneEntry, fivePlan, nodeCount, lentCells, lentOut, played, isAccepted, holds, allHold, example1, valueDigits, headLine, fourHead, head7, head9, bareHead, laterHead, fiveHead, pairHead, dealerLine, misfitLine, oddLine, secondLine, liarLine, liar9, placedLine, printedLine, decidedPart, alone, fiveParts, sevenLines, sevenParts, largeHead, largeLine, largePrinted, largeTable, caseTable}
+
+record Computed : Type 0 where
+  one-byte : allHold one (caseTable one) ≡ true
+  two-bytes : allHold two (caseTable two) ≡ true
+  large : allHold two largeTable ≡ true
+
+computed : Computed
+unfolding encode pairs decode numberAt first any count member union insert within boards setOf size holder heldAt isSome tolerated strays covers thirdPlace secondPlace firstPlace covered places refusal verdict listed largest height isCut rounds ceilDiv runs firstRound hasRound steps step stepRun stepRound covering admitting andThen isDepth judgeSettings planning voidPlan planOn planned judged occurs mask last childrenFrom children childrenOf labels labelAt levelSize levelStart cellCount sizeWithin startWithin countWithin ordinal rank outsideBelow childIndex place′ cellAt store default value read filter internal nodes inner carried sent due frame only same vote tabulate resolve resolveRoot explained byCell byResolving entryAt hasEntry levelOf join asSet passes maskBoard detectG detectAllG detectC detectAllC detectLevels fill counted receive fillMissing copyOwn gather rootOnly nextRound convert runEnded close isTaken judgeNumber judgeOther judgeBoard judgeCells goodPlan goodNumber goodOther goodPosition goodMarks goodEntry goodEntries goodDecision goodRecord judgeRecord judgeOpen freshRecord voidRecord judgeBeginning beginning dealing judgeReceiving taking receiving frameOf wireOf judgeSending sending closedValues closing deciding nobody boardAt begun hears handIn takeAll hearAll session at prepend lines digit joinByte bytesOf lineBytes headOf judgeHead frameLine earlier rises goodFrame wrongAt refusedReading addFrame readFrames readHead readLines reading findFrame decoded sheetAdversary part replacePart setting finalBoards hexDigit hexByte hexBytes hexValue printed boardLine printBoards finalCells refusedPlay playHead playing refusalText benchPrints sameList said log oneEntry fivePlan nodeCount lentCells lentOut played isAccepted holds allHold example1 valueDigits headLine fourHead head7 head9 bareHead laterHead fiveHead pairHead dealerLine misfitLine oddLine secondLine liarLine liar9 placedLine printedLine decidedPart alone fiveParts sevenLines sevenParts largeHead largeLine largePrinted largeTable caseTable
+computed = record { one-byte = refl; two-bytes = refl; large = refl }
 
 pub table-holds : (w : Width) → allHold w (caseTable w) ≡ true
-unfolding encode pairs decode numberAt first any count member union insert within boards setOf size holder heldAt isSome tolerated strays covers thirdPlace secondPlace firstPlace covered places refusal verdict listed largest height isCut rounds ceilDiv runs firstRound hasRound steps step stepRun stepRound covering admitting andThen isDepth judgeSettings planning voidPlan planOn planned judged occurs mask last childrenFrom children childrenOf labels labelAt levelSize levelStart cellCount sizeWithin startWithin countWithin ordinal rank outsideBelow childIndex place′ cellAt store default value read filter internal nodes inner carried sent due frame only same vote tabulate resolve resolveRoot explained byCell byResolving entryAt hasEntry levelOf join asSet passes maskBoard detectG detectAllG detectC detectAllC detectLevels fill counted receive fillMissing copyOwn gather rootOnly nextRound convert runEnded close isTaken judgeNumber judgeOther judgeBoard judgeCells goodPlan goodNumber goodOther goodPosition goodMarks goodEntry goodEntries goodDecision goodRecord judgeRecord judgeOpen freshRecord voidRecord judgeBeginning beginning dealing judgeReceiving taking receiving frameOf wireOf judgeSending sending closedValues closing deciding nobody boardAt begun hears handIn takeAll hearAll session at prepend lines digit joinByte bytesOf lineBytes headOf judgeHead frameLine earlier rises goodFrame wrongAt refusedReading addFrame readFrames readHead readLines reading findFrame decoded sheetAdversary part replacePart setting finalBoards hexDigit hexByte hexBytes hexValue printed boardLine printBoards finalCells refusedPlay playHead playing refusalText benchPrints sameList said log oneEntry fivePlan nodeCount lentCells lentOut played isAccepted holds allHold example1 valueDigits headLine fourHead head7 head9 bareHead laterHead fiveHead pairHead dealerLine misfitLine secondLine liarLine liar9 placedLine printedLine decidedPart alone fiveParts sevenLines sevenParts caseTable
-table-holds one = refl
-table-holds two = refl
+table-holds one = computed .one-byte
+table-holds two = computed .two-bytes
+
+-- Values above 255.
+pub large-table-holds : allHold two largeTable ≡ true
+large-table-holds = computed .large

@@ -109,7 +109,7 @@ holds w (stored m x list vs c) =
     let p = planned 4 (1 ∷ 2 ∷ 4 ∷ 8 ∷ []) (record { dealer = 0; span = m; default = x; depth = 0 }) in
     let b = beginning w p 1 (replicate 16 9) .board in
     let r = receiving (boardOf w (standingAt p (b .rec .board) (b .rec .run) (b .rec .round) list) (b .cells)) 0 (encode w vs) in
-    eqb (r .answer .number) 0 && eqb (getD (r .board .cells) 0 0) c
+    eqb (r .answer .number) 0 && eqb (getD (r .board .cells) 0 (blank w)) c
 holds w (gathered x cells entries after) =
     let s = gather (boardOf w (withMarks (standingAt (fivePlan x) 2 (record { 0 = 1 }) (record { 0 = 3 }) noEntries) 0x1A) (cells ++ replicate 48 9)) in
     sameList (log (s .list) 0 7) entries && sameList (s .cells) (after ++ replicate 48 9)
@@ -127,7 +127,7 @@ allHold w (r ∷ rs) = holds w r && allHold w rs
 unfoldable pub example1 : List ℕ
 example1 = 0x07 ∷ 0x09 ∷ 0x12 ∷ 0x22 ∷ 0x0C ∷ []
 
--- The digits of a value below 256, by its last two: in two bytes 00 stands before them.
+-- The digits of a value below 256, by its last two. 02 g: "in cases 7 to 9 each of these numbers, and each decision, gets 00 before it".
 unfoldable pub valueDigits : Width → ℕ → ℕ → List ℕ → List ℕ
 valueDigits one x y rest = x ∷ y ∷ rest
 valueDigits two x y rest = 0x30 ∷ 0x30 ∷ x ∷ y ∷ rest
@@ -143,11 +143,11 @@ headLine w n x y sets f =
 unfoldable pub fourHead : Width → ℕ → ℕ → ℕ → List ℕ
 fourHead w x y f = headLine w 0x34 x y (0x30 ∷ 0x34 ∷ 0x30 ∷ 0x31 ∷ 0x30 ∷ 0x32 ∷ 0x30 ∷ 0x34 ∷ 0x30 ∷ 0x38 ∷ []) f
 
--- The head of cases 7 and 8, in one byte 041000000005040102040801. 02 b: "cases 7 to 9 hold 00 there".
+-- The head of cases 7 and 8, 041000000005040102040801, in two bytes 040010000000000005040102040801. 02 b: "cases 7 to 9 hold 00 there".
 unfoldable pub head7 : Width → List ℕ
 head7 w = fourHead w 0x30 0x30 0x31
 
--- The head of case 9, in one byte 041000000005040102040808.
+-- The head of case 9, 041000000005040102040808, in two bytes 040010000000000005040102040808.
 unfoldable pub head9 : Width → List ℕ
 head9 w = fourHead w 0x30 0x30 0x38
 
@@ -175,6 +175,10 @@ dealerLine w i v =
 unfoldable pub misfitLine : Width → ℕ → List ℕ
 misfitLine w i = 0x30 ∷ 0x31 ∷ 0x30 ∷ 0x31 ∷ 0x30 ∷ 0x30 ∷ 0x30 ∷ i ∷ valueDigits w 0x30 0x39 (valueDigits w 0x30 0x39 (0x0A ∷ []))
 
+-- 010100, a receiver's digits, and 000500, and a newline: three bytes. 02 g: "A frame of an odd length is a misfit."
+unfoldable pub oddLine : ℕ → List ℕ
+oddLine i = 0x30 ∷ 0x31 ∷ 0x30 ∷ 0x31 ∷ 0x30 ∷ 0x30 ∷ 0x30 ∷ i ∷ 0x30 ∷ 0x30 ∷ 0x30 ∷ 0x35 ∷ 0x30 ∷ 0x30 ∷ 0x0A ∷ []
+
 -- 0102, a sender's digits, a receiver's digits, and a value's digits, and a newline: a frame of one value in round 2.
 unfoldable pub secondLine : Width → ℕ → ℕ → ℕ → List ℕ
 secondLine w q i v = 0x30 ∷ 0x31 ∷ 0x30 ∷ 0x32 ∷ 0x30 ∷ q ∷ 0x30 ∷ i ∷ valueDigits w 0x30 v (0x0A ∷ [])
@@ -195,9 +199,24 @@ placedLine w i v s k = 0x30 ∷ i ∷ valueDigits w 0x30 v (0x30 ∷ s ∷ 0x30 
 unfoldable pub printedLine : Width → ℕ → ℕ → ℕ → List ℕ
 printedLine w i v s = placedLine w i v s 0x30
 
--- What a board's part holds at the end: the decision, and no other value.
+-- 04, the span 0110, the default 0107, 0000, the dealer's value 0105, the sets 01, 02, 04, 08, F = 01, and a newline.
+unfoldable pub largeHead : List ℕ
+largeHead =
+    0x30 ∷ 0x34 ∷ 0x30 ∷ 0x31 ∷ 0x31 ∷ 0x30 ∷ 0x30 ∷ 0x31 ∷ 0x30 ∷ 0x37 ∷ 0x30 ∷ 0x30 ∷ 0x30 ∷ 0x30 ∷ 0x30 ∷ 0x31 ∷ 0x30 ∷ 0x35
+    ∷ 0x30 ∷ 0x34 ∷ 0x30 ∷ 0x31 ∷ 0x30 ∷ 0x32 ∷ 0x30 ∷ 0x34 ∷ 0x30 ∷ 0x38 ∷ 0x30 ∷ 0x31 ∷ 0x0A ∷ []
+
+-- 010100, a receiver's digits, 0, a digit, 0, a digit, and a newline: a value of two bytes.
+unfoldable pub largeLine : ℕ → ℕ → ℕ → List ℕ
+largeLine i h l = 0x30 ∷ 0x31 ∷ 0x30 ∷ 0x31 ∷ 0x30 ∷ 0x30 ∷ 0x30 ∷ i ∷ 0x30 ∷ h ∷ 0x30 ∷ l ∷ 0x0A ∷ []
+
+-- A printed line with the decision 0105, nobody listed.
+unfoldable pub largePrinted : ℕ → List ℕ
+largePrinted i = 0x30 ∷ i ∷ 0x30 ∷ 0x31 ∷ 0x30 ∷ 0x35 ∷ 0x30 ∷ 0x30 ∷ 0x30 ∷ 0x30 ∷ 0x0A ∷ []
+
+-- What a board's part holds at the end: the decision, and no other value. 01: "all other cells FF"; 02 g: "FFFF marks a cell without a value."
 unfoldable pub decidedPart : Width → ℕ → List ℕ
-decidedPart w v = v ∷ replicate 15 (blank w)
+decidedPart one v = v ∷ replicate 15 0xFF
+decidedPart two v = v ∷ replicate 15 0xFFFF
 
 -- A part that is left alone.
 unfoldable pub alone : List ℕ
@@ -213,6 +232,19 @@ sevenLines w s = printedLine w 0x31 0x37 s ++ (printedLine w 0x32 0x37 s ++ prin
 
 unfoldable pub sevenParts : Width → List ℕ
 sevenParts w = alone ++ (decidedPart w 7 ++ (decidedPart w 7 ++ decidedPart w 7))
+
+-- 02 g, values above 255, in two bytes: the span 0110, so that 010F is a value and 0110 counts as the default, 0107; low byte first it would not. The
+-- dealer tells 0105, 0105 and 0001: all decide 0105.
+unfoldable pub largeTable : List Row
+largeTable =
+    stored 0x110 0x107 noEntries (0x10F ∷ []) 0x10F
+    ∷ stored 0x110 0x107 noEntries (0x110 ∷ []) 0x107
+    ∷ stored 0xFFFF 0 noEntries (0xFFFE ∷ []) 0xFFFE
+    ∷ stored 0xFFFF 0 noEntries (0xFFFF ∷ []) 0
+    ∷ sheet (largeHead ++ (largeLine 0x31 0x31 0x35 ++ (largeLine 0x32 0x31 0x35 ++ largeLine 0x33 0x30 0x31)))
+    (largePrinted 0x31 ++ (largePrinted 0x32 ++ largePrinted 0x33))
+    (alone ++ (decidedPart two 0x105 ++ (decidedPart two 0x105 ++ decidedPart two 0x105)))
+    ∷ []
 
 unfoldable pub caseTable : Width → List Row
 caseTable w =
@@ -272,6 +304,8 @@ caseTable w =
     ∷ sheet (fourHead w 0x30 0x37 0x31) (sevenLines w 0x30) (sevenParts w)
     ∷ sheet (fourHead w 0x30 0x37 0x31 ++ (dealerLine w 0x31 0x35 ++ (dealerLine w 0x32 0x36 ++ dealerLine w 0x33 0x39))) (sevenLines w 0x31) (sevenParts w)
     ∷ sheet (fourHead w 0x30 0x37 0x31 ++ (dealerLine w 0x31 0x35 ++ (misfitLine w 0x32 ++ misfitLine w 0x33))) (sevenLines w 0x30) (sevenParts w)
+    -- 02 g: the same with frames of three bytes
+    ∷ sheet (fourHead w 0x30 0x37 0x31 ++ (dealerLine w 0x31 0x35 ++ (oddLine 0x32 ++ oddLine 0x33))) (sevenLines w 0x30) (sevenParts w)
     -- a value below m, one of m, a misfit frame, a frame of a listed board
     ∷ stored 16 7 noEntries (0x0F ∷ []) 0x0F
     ∷ stored 16 7 noEntries (0x10 ∷ []) 7

@@ -55,7 +55,8 @@ finalBoards w h fs cells = session (setting w h cells) (sheetAdversary w h fs) (
 unfoldable pub hexValue : Width → ℕ → List ℕ → List ℕ
 hexValue w v rest = hexBytes (encode w (v ∷ [])) rest
 
--- 01: "prints for each board outside F, rising: board, decision, list as a set"; 02 c: "Each printed line gains a fourth byte".
+-- 01: "prints for each board outside F, rising: board, decision, list as a set"; 02 c: "Each printed line gains a fourth byte"; 02 g,
+-- in two bytes: "In printed lines the decision takes two bytes".
 unfoldable pub printed : Width → ℕ → ℕ → ℕ → ℕ → List ℕ → List ℕ
 printed w i decision list place rest = hexByte i (hexValue w decision (hexByte list (hexByte place (10 ∷ rest))))
 

@@ -100,7 +100,8 @@ headOf w bytes = record {
   word = headWord w bytes;
 }
 
--- 01, 'Playing a sheet', head: 22; 1 to 7, 26 (02 b), 8; 18; 23. 02 b: "a head has 8 + s bytes and number 22 reads so".
+-- 01, 'Playing a sheet', head: 22; 1 to 7, 26 (02 b), 8; 18; 23. 02 b: "a head has 8 + s bytes and number 22 reads so";
+-- 02 g, in two bytes: "A head now has 11 + s bytes".
 unfoldable pub judgeHead : Width → List ℕ → Outcome
 judgeHead w bytes =
     let plan = planning (headBoards bytes) (headCount w bytes) (headSets w bytes) (headSettings w bytes) in

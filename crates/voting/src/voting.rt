@@ -42,7 +42,7 @@ fn elects(plan: Plan, holders: &[u8], boards: u8, values: [Value; 8], c: u8) -> 
     !tolerates(plan, holders, agreeing_on(plan.n, boards, values, v))
 }
 
-// The only value below m whose holders are not tolerated, of the children's own; FF if there is none or more than one.
+// The only value below m whose holders are not tolerated, of the children's own; the mark if there is none or more than one.
 pub fn vote(plan: Plan, holders: &[u8], boards: u8, values: [Value; 8]) -> Value
     requires { ⌜ Tabled plan (now holders) ⌝ }
     ensures { λ r. ⌜ r ≡ voted plan boards values ⌝ }

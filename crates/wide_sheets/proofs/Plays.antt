@@ -97,9 +97,9 @@ module _ (h : Head) (m : h .plan .span ≤ 255) (word : h .word < 256) (fs : Lis
   unfolding finalBoards at setting
   decision-small i l = decisions-small (setting one h cells) narrow (sheetAdversary one h fs) (steps (h .plan)) i l
 
-  line-wide : (i : ℕ) (rest : List ℕ) → i < h .plan .n → boardLine two h wideEnding i (widePrinted rest) ≡ widePrinted (boardLine one h ending i rest)
+  board-line-wide : (i : ℕ) (rest : List ℕ) → i < h .plan .n → boardLine two h wideEnding i (widePrinted rest) ≡ widePrinted (boardLine one h ending i rest)
   unfolding boardLine wideBoard wideRecord
-  line-wide i rest l =
+  board-line-wide i rest l =
       cases (member i (h .faulty))
       (λ e. rw e)
       (λ e. rw e (cases (eqb i (h .plan .dealer))
@@ -109,11 +109,11 @@ module _ (h : Head) (m : h .plan .span ≤ 255) (word : h .word < 256) (fs : Lis
       rw x (ap (λ (b : Board). printed two i (b .rec .decision) (asSet (b .rec .list)) (heldAt (listed (h .plan)) (asSet (b .rec .list))) (widePrinted rest)) (board-wide i l)
       ∙ printed-wide i (b .rec .decision) list (heldAt (listed (h .plan)) list) rest (decision-small i l)))))
 
-  lines-wide : (i k : ℕ) → i + k ≤ h .plan .n → printBoards two h wideEnding i k ≡ widePrinted (printBoards one h ending i k)
+  board-lines-wide : (i k : ℕ) → i + k ≤ h .plan .n → printBoards two h wideEnding i k ≡ widePrinted (printBoards one h ending i k)
   unfolding printBoards
-  lines-wide i zero l = sym none-wide
-  lines-wide i (suc k) l =
-      ap (boardLine two h wideEnding i) (lines-wide (suc i) k (omega arith)) ∙ line-wide i (printBoards one h ending (suc i) k) (omega arith)
+  board-lines-wide i zero l = sym none-wide
+  board-lines-wide i (suc k) l =
+      ap (boardLine two h wideEnding i) (board-lines-wide (suc i) k (omega arith)) ∙ board-line-wide i (printBoards one h ending (suc i) k) (omega arith)
 
   cells-wide : (k : ℕ) → k ≤ h .plan .n → finalCells h wideEnding k (map wide cells) ≡ map wide (finalCells h ending k cells)
   unfolding finalCells
@@ -131,7 +131,7 @@ module _ (h : Head) (m : h .plan .span ≤ 255) (word : h .word < 256) (fs : Lis
   play-head-wide out out′ =
       let text = printBoards one h ending 0 (h .plan .n) in
       let text-same : printBoards two h wideEnding 0 (h .plan .n) ≡ widePrinted (take (length text) (text ++ drop (length text) out)) =
-      lines-wide 0 (h .plan .n) (omega arith) ∙ sym (ap widePrinted (take-append-seam text (drop (length text) out))) in
+      board-lines-wide 0 (h .plan .n) (omega arith) ∙ sym (ap widePrinted (take-append-seam text (drop (length text) out))) in
       λ j. record {
         answer = taken (length (text-same j) ∷ []);
         cells = cells-wide (h .plan .n) (omega arith) j;
@@ -150,10 +150,10 @@ play-read : (w : Width) (text cells out : List ℕ) → length text ≤ sheetMos
 unfolding playing afterReading
 play-read w text cells out l room = rw (le-ltb sheetMost (length text) l, le-ltb (length out) (outputNeeded w) room)
 
-after-wide : (r : Reading) (cells out out′ : List ℕ) → r .head .plan .span ≤ 255 → (r .answer .number ≡ 0 → GoodHead (r .head))
+played-wide : (r : Reading) (cells out out′ : List ℕ) → r .head .plan .span ≤ 255 → (r .answer .number ≡ 0 → GoodHead (r .head))
     → afterReading two (wideReading r) (map wide cells) out′ ≡ widePlay out′ (afterReading one r cells out)
 unfolding afterReading wideReading refusedPlay wrongAt widePlay isTaken
-after-wide r cells out out′ m good =
+played-wide r cells out out′ m good =
     cases (ltb (length cells) cellsNeeded)
     (λ e. rw (length-map cells wide, e))
     (λ e. rw (length-map cells wide, e) (cases (eqb (r .answer .number) 0)
@@ -166,7 +166,7 @@ playing-wide : (text cells out out′ : List ℕ) → length (wideText text) ≤
 playing-wide text cells out out′ l room room′ =
     play-read two (wideText text) (map wide cells) out′ l room′
     ∙ ap (λ r. afterReading two r (map wide cells) out′) (reading-wide text)
-    ∙ after-wide (reading one text) cells out out′ (reading-span text) (sheet-head one text)
+    ∙ played-wide (reading one text) cells out out′ (reading-span text) (sheet-head one text)
     ∙ sym (ap (widePlay out′) (play-read one text cells out (omega (arith, text-longer text)) room))
 
 -- What bench prints.

@@ -24,7 +24,7 @@ use Rattle.sheet.specs.Sheet.{Line, lines, lineBytes, headBoards, headSets, hea
 use Rattle.sheet.proofs.Sheets.{frames-text, frames-wrong, frames-right, frames-head, head-right, head-wrong, lines-text, lines-head}
 use Rattle.widening.specs.Widening.{wideBytes}
 use Rattle.wide_sheets.specs.WideText.{headValue, frameValue, wideDigits, wideLine, wideLines, wideText}
-use Rattle.wide_sheets.proofs.Splitting.{lines-wide}
+use Rattle.wide_sheets.proofs.Splitting.{sheet-lines-wide}
 
 -- The bytes of a widened line.
 unfoldable mapped : (List ℕ → List ℕ) → Option (List ℕ) → Option (List ℕ)
@@ -62,9 +62,9 @@ module _ (isValue : ℕ → Bool) where
       (λ x. rw x (ap (λ o. joinByte (digit 0x30) (digit 0x30) (joinByte (digit c) (digit e) o)) ih ∙ join-value k (digit c) (digit e) (bytesOf cs) x))
       (λ x. rw x (ap (joinByte (digit c) (digit e)) ih ∙ join-other k (digit c) (digit e) (bytesOf cs) x))
 
-  line-wide : (l : Line) → lineBytes (wideLine isValue l) ≡ mapped (wideAt 0) (lineBytes l)
+  line-bytes-wide : (l : Line) → lineBytes (wideLine isValue l) ≡ mapped (wideAt 0) (lineBytes l)
   unfolding lineBytes wideLine mapped
-  line-wide l = cases (l .ended) (λ e. rw e (digits-wide 0 (l .text))) (λ e. rw e)
+  line-bytes-wide l = cases (l .ended) (λ e. rw e (digits-wide 0 (l .text))) (λ e. rw e)
 
 -- Frames.
 unfoldable pub wideFrame : Frame → Frame
@@ -83,13 +83,13 @@ unfolding wideAt wideBytes
 values-wide k [] l = refl
 values-wide k (v ∷ vs) l = rw (frame-value k l) (ap (λ t. 0 ∷ (v ∷ t)) (values-wide (suc k) vs (omega arith)))
 
-frame-wide : (bytes : List ℕ) → frameLine (wideFrameBytes bytes) ≡ wideFrame (frameLine bytes)
+frame-line-wide : (bytes : List ℕ) → frameLine (wideFrameBytes bytes) ≡ wideFrame (frameLine bytes)
 unfolding frameLine wideAt frameValue wideFrame wideBytes
-frame-wide [] = refl
-frame-wide (a ∷ []) = refl
-frame-wide (a ∷ (b ∷ [])) = refl
-frame-wide (a ∷ (b ∷ (c ∷ []))) = refl
-frame-wide (a ∷ (b ∷ (c ∷ (d ∷ vs)))) =
+frame-line-wide [] = refl
+frame-line-wide (a ∷ []) = refl
+frame-line-wide (a ∷ (b ∷ [])) = refl
+frame-line-wide (a ∷ (b ∷ (c ∷ []))) = refl
+frame-line-wide (a ∷ (b ∷ (c ∷ (d ∷ vs)))) =
     ap (λ x. record { run = record { 0 = a }; round = record { 0 = b }; sender = c; receiver = d; values = x }) (values-wide 4 vs (omega arith))
 
 enough-wide : (bytes : List ℕ) → leb 4 (length (wideFrameBytes bytes)) ≡ leb 4 (length bytes)
@@ -112,7 +112,7 @@ rises-wide (some g) f = refl
 
 good-wide : (h : Head) (before : Option Frame) (bytes : List ℕ) → goodFrame h (wideBefore before) (wideFrameBytes bytes) ≡ goodFrame h before bytes
 unfolding goodFrame wideFrame
-good-wide h before bytes = rw (frame-wide bytes, enough-wide bytes, rises-wide before (frameLine bytes))
+good-wide h before bytes = rw (frame-line-wide bytes, enough-wide bytes, rises-wide before (frameLine bytes))
 
 unfoldable pub wideReading : Reading → Reading
 wideReading r = record { answer = r .answer; head = r .head; frames = map wideFrame (r .frames) }
@@ -127,13 +127,13 @@ frames-wide h before line (l ∷ ls) = go (λ f. frames-wide h (some f) (suc lin
         → (o : Option (List ℕ)) → lineBytes l ≡ o
         → readFrames h (wideBefore before) line (wideLine frameValue l ∷ map (wideLine frameValue) ls) ≡ wideReading (readFrames h before line (l ∷ ls))
     go ih none e =
-        frames-text h (wideBefore before) line (wideLine frameValue l) (map (wideLine frameValue) ls) (line-wide frameValue l ∙ ap (mapped wideFrameBytes) e)
+        frames-text h (wideBefore before) line (wideLine frameValue l) (map (wideLine frameValue) ls) (line-bytes-wide frameValue l ∙ ap (mapped wideFrameBytes) e)
         ∙ sym (ap wideReading (frames-text h before line l ls e))
     go ih (some bytes) e =
-        let e′ : lineBytes (wideLine frameValue l) ≡ some (wideFrameBytes bytes) = line-wide frameValue l ∙ ap (mapped wideFrameBytes) e in
+        let e′ : lineBytes (wideLine frameValue l) ≡ some (wideFrameBytes bytes) = line-bytes-wide frameValue l ∙ ap (mapped wideFrameBytes) e in
         cases (goodFrame h before bytes)
         (λ g. frames-right h (wideBefore before) line (wideLine frameValue l) (map (wideLine frameValue) ls) (wideFrameBytes bytes) e′ (good-wide h before bytes ∙ g)
-        ∙ ap (λ f. addFrame f (readFrames h (some f) (suc line) (map (wideLine frameValue) ls))) (frame-wide bytes)
+        ∙ ap (λ f. addFrame f (readFrames h (some f) (suc line) (map (wideLine frameValue) ls))) (frame-line-wide bytes)
         ∙ ap (addFrame (wideFrame (frameLine bytes))) (ih (frameLine bytes))
         ∙ sym (ap wideReading (frames-right h before line l ls bytes e g)))
         (λ g. frames-wrong h (wideBefore before) line (wideLine frameValue l) (map (wideLine frameValue) ls) (wideFrameBytes bytes) e′ (good-wide h before bytes ∙ g)
@@ -264,17 +264,17 @@ read-lines-wide (l ∷ ls) = go (lineBytes l) refl
   where
     go : (o : Option (List ℕ)) → lineBytes l ≡ o → readLines two (wideLines (l ∷ ls)) ≡ wideReading (readLines one (l ∷ ls))
     go none e =
-        lines-text two (wideLine headValue l) (map (wideLine frameValue) ls) (line-wide headValue l ∙ ap (mapped wideHead) e)
+        lines-text two (wideLine headValue l) (map (wideLine frameValue) ls) (line-bytes-wide headValue l ∙ ap (mapped wideHead) e)
         ∙ ap (λ h. refusedReading h 1 (refused 21)) (head-wide [])
         ∙ sym (ap wideReading (lines-text one l ls e))
     go (some bytes) e =
-        lines-head two (wideLine headValue l) (map (wideLine frameValue) ls) (wideHead bytes) (line-wide headValue l ∙ ap (mapped wideHead) e)
+        lines-head two (wideLine headValue l) (map (wideLine frameValue) ls) (wideHead bytes) (line-bytes-wide headValue l ∙ ap (mapped wideHead) e)
         ∙ read-head-wide bytes ls
         ∙ sym (ap wideReading (lines-head one l ls bytes e))
 
 pub reading-wide : (text : List ℕ) → reading two (wideText text) ≡ wideReading (reading one text)
 unfolding reading
-reading-wide text = ap (readLines two) (lines-wide text) ∙ read-lines-wide (lines text)
+reading-wide text = ap (readLines two) (sheet-lines-wide text) ∙ read-lines-wide (lines text)
 
 -- The span of a sheet in one-byte values is a byte.
 bytes-below : (line bytes : List ℕ) → bytesOf line ≡ some bytes → (k : ℕ) → getD bytes k 0 < 256

@@ -102,9 +102,9 @@ sheet-split no-lines = no-lines
 sheet-split (last-line {t = t} p l) = last-line (plain-wide headValue 0 p) (omega (arith, length-wide headValue 0 t))
 sheet-split (line p s) = line (plain-wide headValue 0 p) (split-wide frameValue s)
 
-pub lines-wide : (text : List ℕ) → lines (wideText text) ≡ wideLines (lines text)
+pub sheet-lines-wide : (text : List ℕ) → lines (wideText text) ≡ wideLines (lines text)
 unfolding wideText
-lines-wide text = lines-joined (sheet-split (lines-split text))
+sheet-lines-wide text = lines-joined (sheet-split (lines-split text))
 
 -- A text is what its lines make.
 joined-prepend : (c : ℕ) (ls : List Line) → joined (prepend c ls) ≡ c ∷ joined ls

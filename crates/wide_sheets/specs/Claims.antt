@@ -14,7 +14,7 @@ use Rattle.widening.specs.Widening.{wide}
 use Rattle.wide_sheets.specs.WideText.{wideText, widePrinted, widePlay}
 
 -- Every text, with any cells, and any output for each width.
-pub record SameSheet (text cells out out′ : List ℕ) : Type 0 where
+pub record WideSheet (text cells out out′ : List ℕ) : Type 0 where
   pub span : reading one text .head .plan .span ≤ 255
   -- so a sheet that is 20 in one byte is 20 in two
   pub longer : length text ≤ length (wideText text)
@@ -36,4 +36,4 @@ pub record SameSheet (text cells out out′ : List ℕ) : Type 0 where
       → benchPrints two (wideText text) (map wide cells) out′ ≡ benchPrints one text cells out
 
 abbrev pub SheetsSame : Type 0
-SheetsSame = (text cells out out′ : List ℕ) → SameSheet text cells out out′
+SheetsSame = (text cells out out′ : List ℕ) → WideSheet text cells out out′

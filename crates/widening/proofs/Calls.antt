@@ -2,33 +2,30 @@
 -- Assumes nothing.
 use Prim.Native.Nat.{ℕ, _+_, _*_, _/_, _%_, _≤_, _<_}
 use mathlib.Core.Path.{_≡_, refl, sym, _∙_, ap, ap₂, subst}
-use mathlib.Core.Logic.{_⊎_, inl, inr, _≢_, ⊎-elim}
+use mathlib.Core.Logic.{_⊎_, inl, inr, ⊎-elim}
 use mathlib.Core.Bool.{Bool, true, false, cond}
 use mathlib.Core.List.{List, [], _∷_, _++_, map}
 use native.Mathlib.Omega.{arith}
 use lib.Dec.{eqb, leb, ltb}
 use lib.ListN.{length, drop, length-map}
-use borrow.Author.Tests.{eq-eqb, leb-false, lt-ltb, le-ltb, ltb-true, ltb-false}
+use borrow.Author.Tests.{eq-eqb, leb-false, ltb-true, ltb-false}
 use Rattle.codec.specs.Codec.{one, two, encode, pairs, decode}
 use Rattle.sets.specs.Sets.{member}
-use Rattle.sets.specs.Search.{any}
 use Rattle.sets.proofs.Tests.{cases, clash}
 use Rattle.refusals.specs.Outcome.{Outcome, taken, refused, andThen}
-use Rattle.refusals.proofs.Outcomes.{taken-first}
 use Rattle.plan.specs.declared.plan.Plan.{Plan}
 use Rattle.plan.specs.Calls.{judged}
 use Rattle.plan.specs.Values.{default}
 use Rattle.tree.specs.Labels.{Label}
-use Rattle.tree.specs.Places.{cellCount}
 use Rattle.protocol.specs.Nodes.{read, sent, due, frame}
 use Rattle.protocol.specs.Rounds.{boardOf, Board, counted, receive, close}
-use Rattle.protocol.specs.Calls.{Result, Output, isTaken, goodRecord, judgeRecord, judgeCells, judgeOpen, judgeBeginning, beginning, freshRecord, dealing, judgeReceiving, taking, receiving, frameOf, wireOf, judgeSending, sending, closedValues, closing}
+use Rattle.protocol.specs.Calls.{Result, Output, isTaken, judgeCells, judgeOpen, judgeBeginning, beginning, freshRecord, dealing, judgeReceiving, taking, receiving, frameOf, wireOf, sending, closedValues, closing}
 use Rattle.protocol.proofs.Bounds.{read-small}
-use Rattle.protocol.proofs.Judgement.{is-taken, taken-is, plan-default, Open, open-facts}
-use Rattle.protocol.proofs.Taken.{receiving-facts}
+use Rattle.protocol.proofs.Judgement.{is-taken, taken-is, plan-default, Open, open-facts, open-other}
+use Rattle.protocol.proofs.Taken.{receiving-facts, someDue, output, sending-closed, sending-nothing, sending-short, sending-written}
 use Rattle.agreement.specs.Lists.{Call, leaves}
 use Rattle.widening.specs.Widening.{wide, wideBytes, wideRecord, wideBoard, wideResult, wideFrameIn, Wider, receives-wider, sends-wider, closes-wider, decides-wider}
-use Rattle.widening.specs.Claims.{Narrow, SameWriting, CallsSame, BeginningSame, DealingSame}
+use Rattle.widening.specs.Claims.{Narrow, WideWriting, CallsSame, BeginningSame, DealingSame}
 use Rattle.widening.proofs.Rounds.{cleared-wide, read-wide, fill-wide, close-wide}
 
 -- Values below 256 are written with 00 before each.
@@ -123,50 +120,6 @@ wire-wide b n o =
     ∙ encode-read (read (r .plan) (b .cells)) (sent (r .plan) (r .board) (r .board) (r .round)) small
     ∙ ap (λ w. wideBytes (encode w (frameOf b))) (sym (n .width))
 
--- What a writing leaves, by what it meets first.
-abbrev someDue : Board → Bool
-someDue b = let r = b .rec in any (λ i. due (r .plan) (r .board) i (r .round)) (r .plan .n)
-
-abbrev output : Outcome → List ℕ → Output
-output o out = record { answer = o; out = out }
-
-module _ (b : Board) (out : List ℕ) where
-  send-closed : isTaken (judgeOpen b) ≡ false → sending b out ≡ output (judgeOpen b) out
-  unfolding sending judgeSending andThen isTaken
-  send-closed e = rw (e, e)
-
-  module _ (e : judgeOpen b .number ≡ 0) where
-    send-nothing : someDue b ≡ false → sending b out ≡ output (refused 16) out
-    unfolding sending judgeSending isTaken
-    send-nothing x = rw (taken-first (judgeOpen b) _ e, x) refl
-
-    send-short : someDue b ≡ true → length out < length (wireOf b) → sending b out ≡ output (refused 17) out
-    unfolding sending judgeSending isTaken
-    send-short x l = rw (taken-first (judgeOpen b) _ e, x, lt-ltb (length out) (length (wireOf b)) l) refl
-
-    send-written : someDue b ≡ true → length (wireOf b) ≤ length out
-        → sending b out ≡ output (taken (length (wireOf b) ∷ [])) (wireOf b ++ drop (length (wireOf b)) out)
-    unfolding sending judgeSending isTaken
-    send-written x l = rw (taken-first (judgeOpen b) _ e, x, le-ltb (length out) (length (wireOf b)) l) refl
-
--- 12, 11 and 13 are not 17.
-and-number : (o next : Outcome) (k : ℕ) → o .number ≢ k → next .number ≢ k → andThen o next .number ≢ k
-unfolding andThen
-and-number o next k f g = cases (eqb (o .number) 0) (λ e. rw e g) (λ e. rw e f)
-
-cond-number : (c : Bool) (x y : Outcome) (k : ℕ) → x .number ≢ k → y .number ≢ k → cond c x y .number ≢ k
-cond-number true x y k f g = f
-cond-number false x y k f g = g
-
-open-number : (b : Board) → judgeOpen b .number ≢ 17
-unfolding judgeOpen judgeRecord judgeCells
-open-number b =
-    let r = b .rec in
-    and-number (judgeRecord r) _ 17 (cond-number (goodRecord r) (taken []) (refused 12) 17 (omega arith) (omega arith))
-    (and-number (judgeCells (r .plan) (b .cells)) _ 17
-    (cond-number (ltb (length (b .cells)) (cellCount (r .plan .n))) (refused 11) (taken []) 17 (omega arith) (omega arith))
-    (cond-number (r .decided) (refused 13) (taken []) 17 (omega arith) (omega arith)))
-
 module _ (b : Board) (out : List ℕ) where
   abbrev number : ℕ
   number = sending b out .answer .number
@@ -175,8 +128,8 @@ module _ (b : Board) (out : List ℕ) where
   comes : judgeOpen b .number ≡ 0 → someDue b ≡ true → (number ≡ 0) ⊎ (number ≡ 17)
   comes e x =
       cases (ltb (length out) (length (wireOf b)))
-      (λ l. inr (ap (λ (o : Output). o .answer .number) (send-short b out e x (ltb-true (length out) (length (wireOf b)) l))))
-      (λ l. inl (ap (λ (o : Output). o .answer .number) (send-written b out e x (ltb-false (length out) (length (wireOf b)) l))))
+      (λ l. inr (ap (λ (o : Output). o .answer .number) (sending-short b out e x (ltb-true (length out) (length (wireOf b)) l))))
+      (λ l. inl (ap (λ (o : Output). o .answer .number) (sending-written b out e x (ltb-false (length out) (length (wireOf b)) l))))
 
   came : (number ≡ 0) ⊎ (number ≡ 17) → (judgeOpen b .number ≡ 0) × (someDue b ≡ true)
   came h =
@@ -184,28 +137,28 @@ module _ (b : Board) (out : List ℕ) where
       (λ e. let t = is-taken (judgeOpen b) e in
       cases (someDue b)
       (λ x. (t, x))
-      (λ x. let z : number ≡ 16 = ap (λ (o : Output). o .answer .number) (send-nothing b out t x) in
+      (λ x. let z : number ≡ 16 = ap (λ (o : Output). o .answer .number) (sending-nothing b out t x) in
       absurd (⊎-elim (λ y. let w : ⊥ = omega arith in w) (λ y. let w : ⊥ = omega arith in w) h)))
-      (λ e. let z : number ≡ judgeOpen b .number = ap (λ (o : Output). o .answer .number) (send-closed b out e) in
-      absurd (⊎-elim (λ y. clash (taken-is (judgeOpen b) (sym z ∙ y)) e) (λ y. open-number b (sym z ∙ y)) h))
+      (λ e. let z : number ≡ judgeOpen b .number = ap (λ (o : Output). o .answer .number) (sending-closed b out e) in
+      absurd (⊎-elim (λ y. clash (taken-is (judgeOpen b) (sym z ∙ y)) e) (λ y. open-other b 17 (omega arith) (omega arith) (omega arith) (omega arith) (sym z ∙ y)) h))
 
-writing-wide : (b : Board) → Narrow b → (out out′ : List ℕ) → SameWriting b out out′
+writing-wide : (b : Board) → Narrow b → (out out′ : List ℕ) → WideWriting b out out′
 writing-wide b n out out′ = record {
   as-before = λ not-taken not-short.
       cases (isTaken (judgeOpen b))
       (λ e. let t = is-taken (judgeOpen b) e in
       cases (someDue b)
       (λ x. absurd (⊎-elim not-taken not-short (comes b out t x)))
-      (λ x. send-nothing (wideBoard b) out′ (open-too t) (due-too x) ∙ ap (λ (o : Output). output (o .answer) out′) (sym (send-nothing b out t x))))
-      (λ e. send-closed (wideBoard b) out′ (ap isTaken (open-wide b) ∙ e)
+      (λ x. sending-nothing (wideBoard b) out′ (open-too t) (due-too x) ∙ ap (λ (o : Output). output (o .answer) out′) (sym (sending-nothing b out t x))))
+      (λ e. sending-closed (wideBoard b) out′ (ap isTaken (open-wide b) ∙ e)
       ∙ ap (λ o. output o out′) (open-wide b)
-      ∙ ap (λ (o : Output). output (o .answer) out′) (sym (send-closed b out e)));
+      ∙ ap (λ (o : Output). output (o .answer) out′) (sym (sending-closed b out e)));
   short = λ h l.
       let (t, x) = came b out h in
-      send-short (wideBoard b) out′ (open-too t) (due-too x) (subst (λ k. length out′ < k) (sym (size t)) l);
+      sending-short (wideBoard b) out′ (open-too t) (due-too x) (subst (λ k. length out′ < k) (sym (size t)) l);
   written = λ h l.
       let (t, x) = came b out h in
-      send-written (wideBoard b) out′ (open-too t) (due-too x) (subst (λ k. k ≤ length out′) (sym (size t)) l)
+      sending-written (wideBoard b) out′ (open-too t) (due-too x) (subst (λ k. k ≤ length out′) (sym (size t)) l)
       ∙ ap₂ (λ k f. output (taken (k ∷ [])) (f ++ drop k out′)) (size t) (wire-wide b n (open-facts b t));
 }
   where

@@ -24,7 +24,7 @@ pub record NarrowSetting (s : Setting) : Type 0 where
   pub span : s .plan .span ≤ 255
 
 -- Writing into `out`, and in two bytes into `out′`.
-pub record SameWriting (b : Board) (out out′ : List ℕ) : Type 0 where
+pub record WideWriting (b : Board) (out out′ : List ℕ) : Type 0 where
   -- the same 12, 11, 13 and 16, and nothing is written
   pub as-before : sending b out .answer .number ≢ 0 → sending b out .answer .number ≢ 17
       → sending (wideBoard b) out′ ≡ record { answer = sending b out .answer; out = out′ }
@@ -37,15 +37,15 @@ pub record SameWriting (b : Board) (out out′ : List ℕ) : Type 0 where
       ≡ record { answer = taken (2 * length (wireOf b) ∷ []); out = wideBytes (wireOf b) ++ drop (2 * length (wireOf b)) out′ }
 
 -- The calls on a board, whatever its record and its cells hold.
-pub record SameCalls (b : Board) : Type 0 where
+pub record WideCalls (b : Board) : Type 0 where
   pub handed-in : (q : ℕ) (f : List ℕ) → receiving (wideBoard b) q (wideBytes f) ≡ wideResult (receiving b q f)
-  pub wrote : (out out′ : List ℕ) → SameWriting b out out′
+  pub wrote : (out out′ : List ℕ) → WideWriting b out out′
   pub closed : closing (wideBoard b) ≡ wideResult (closing b)
   pub decision : deciding (wideBoard b .rec) ≡ deciding (b .rec)
   pub left : (c c′ : Call) → Wider c c′ → leaves c′ (wideBoard b) ≡ wideBoard (leaves c b)
 
 abbrev pub CallsSame : Type 0
-CallsSame = (b : Board) → Narrow b → SameCalls b
+CallsSame = (b : Board) → Narrow b → WideCalls b
 
 -- Beginning a board, on any plan; and the dealer's frame, with 00 before its value.
 abbrev pub BeginningSame : Type 0
@@ -55,13 +55,13 @@ abbrev pub DealingSame : Type 0
 DealingSame = (p : Plan) (v : ℕ) → p .span ≤ 255 → dealing two p v ≡ wideFrameIn (dealing one p v)
 
 -- Board i after a list of calls, and every call on it then.
-pub record SameAfter (s : Setting) (calls calls′ : List Call) (i : ℕ) : Type 0 where
+pub record WideAfter (s : Setting) (calls calls′ : List Call) (i : ℕ) : Type 0 where
   pub board : state (wideSetting s) calls′ i ≡ wideBoard (state s calls i)
-  pub next : SameCalls (state s calls i)
+  pub next : WideCalls (state s calls i)
 
 -- Every list, fair or not.
 abbrev pub ListsSame : Type 0
-ListsSame = (s : Setting) → NarrowSetting s → (calls calls′ : List Call) → Widers calls calls′ → (i : ℕ) → SameAfter s calls calls′ i
+ListsSame = (s : Setting) → NarrowSetting s → (calls calls′ : List Call) → Widers calls calls′ → (i : ℕ) → WideAfter s calls calls′ i
 
 -- The synchronous session, whatever faulty boards send.
 abbrev pub SessionSame : Type 0
