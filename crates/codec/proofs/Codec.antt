@@ -57,21 +57,17 @@ pub decode-odd : (f : List ℕ) → length f % 2 ≢ 0 → decode two f ≡ []
 unfolding decode
 decode-odd f e = rw (ne-eqb (length f % 2) 0 e) refl
 
-parity : (f : List ℕ) → (decode two f ≡ pairs f) ⊎ (decode two f ≡ [])
+parity : (f : List ℕ) → ((length f % 2 ≡ 0) × (decode two f ≡ pairs f)) ⊎ (decode two f ≡ [])
 parity f = go (eqb (length f % 2) 0) refl
   where
-    go : (b : Bool) → eqb (length f % 2) 0 ≡ b → (decode two f ≡ pairs f) ⊎ (decode two f ≡ [])
-    go true e = inl (decode-pairs f (eqb-true (length f % 2) 0 e))
+    go : (b : Bool) → eqb (length f % 2) 0 ≡ b → ((length f % 2 ≡ 0) × (decode two f ≡ pairs f)) ⊎ (decode two f ≡ [])
+    go true e = let even = eqb-true (length f % 2) 0 e in inl (even, decode-pairs f even)
     go false e = inr (decode-odd f (eqb-false (length f % 2) 0 e))
 
 -- Bytes for more than k values are more than k values, or none.
 pub decode-past : (w : Width) (k : ℕ) (f : List ℕ) → valueSize w * k < length f → (decode w f ≡ []) ⊎ (k < length (decode w f))
 decode-past one k f l = unfold decode in inr (omega arith)
-decode-past two k f l = go (eqb (length f % 2) 0) refl
-  where
-    go : (b : Bool) → eqb (length f % 2) 0 ≡ b → (decode two f ≡ []) ⊎ (k < length (decode two f))
-    go true e = let even = eqb-true (length f % 2) 0 e in inr (omega (arith, decode-even f even))
-    go false e = inl (decode-odd f (eqb-false (length f % 2) 0 e))
+decode-past two k f l = ⊎-elim (λ e. inr (omega (arith, e .0, decode-even f (e .0)))) inl (parity f)
 
 pairs-at : (f : List ℕ) (i : ℕ) → i < length (pairs f) → getD (pairs f) i 0 ≡ getD f (2 * i) 0 * 256 + getD f (2 * i + 1) 0
 unfolding pairs
@@ -86,12 +82,12 @@ pairs-at (h ∷ (t ∷ f)) (suc i) l =
 -- Value number i is in bytes 2 i and 2 i + 1, the high one first.
 pub decode-fits : (f : List ℕ) (i : ℕ) → i < length (decode two f) → 2 * i + 1 < length f
 decode-fits f i l =
-    ⊎-elim (λ e. omega (arith, ap length e, pairs-length f)) (λ e. absurd (let z = ap length e in omega arith)) (parity f)
+    ⊎-elim (λ e. omega (arith, ap length (e .1), pairs-length f)) (λ e. absurd (let z = ap length e in omega arith)) (parity f)
 
 pub decode-at : (f : List ℕ) (i : ℕ) → i < length (decode two f) → getD (decode two f) i 0 ≡ getD f (2 * i) 0 * 256 + getD f (2 * i + 1) 0
 decode-at f i l =
     ⊎-elim
-    (λ e. ap (λ vs. getD vs i 0) e ∙ pairs-at f i (let z = ap length e in omega arith))
+    (λ e. ap (λ vs. getD vs i 0) (e .1) ∙ pairs-at f i (let z = ap length (e .1) in omega arith))
     (λ e. absurd (let z = ap length e in omega arith))
     (parity f)
 

@@ -4,17 +4,20 @@ use Prim.Native.Nat.{ℕ, _≤_}
 use mathlib.Core.Path.{_≡_, refl, sym, _∙_, ap}
 use mathlib.Core.Logic.{_≢_}
 use mathlib.Core.Bool.{_&&_, cond}
-use mathlib.Core.List.{List, []}
+use mathlib.Core.List.{List, [], _∷_}
 use mathlib.Core.Option.{none}
 use lib.Dec.{eqb, leb, ltb}
 use lib.ListN.{length}
 use borrow.Author.Tests.{eqb-true, eqb-false, ne-eqb, le-ltb}
 use Rattle.codec.specs.Codec.{Width, one, two, encode, numberAt}
 use Rattle.sets.specs.Sets.{within, boards}
+use Rattle.sets.specs.Structure.{tolerated}
 use Rattle.sets.proofs.Tests.{cases}
 use Rattle.refusals.specs.Outcome.{Outcome, taken, refused, andThen}
 use Rattle.refusals.proofs.Outcomes.{both-taken}
+use Rattle.settings.specs.declared.settings.Settings.{Settings}
 use Rattle.settings.specs.Planning.{planning}
+use Rattle.plan.specs.Calls.{planned}
 use Rattle.protocol.specs.Limits.{sheetMost, outputNeeded, cellsNeeded}
 use Rattle.sheet.specs.Sheet.{Line, headSettings, headWord, headOf, judgeHead, Reading, wrongAt, refusedReading, readFrames, readHead, readLines, reading}
 use Rattle.sheet.specs.Playing.{Play, refusedPlay, playHead, playing}
@@ -41,22 +44,30 @@ module _ (n m x d b v f : ℕ) where
   abbrev zero : Width → List ℕ
   zero w = zeroHead w n m x d b v f
 
+  -- A head's judgement, by its number of sets, its sets, its settings and the dealer's value.
+  abbrev judgedBy : ℕ → List ℕ → Settings → ℕ → Outcome
+  judgedBy count sets s word =
+      andThen (planning n count sets s)
+      (andThen (cond (leb (s .span) word) (refused 18) (taken [])) (cond (within f (boards n) && tolerated sets f) (taken []) (refused 23)))
+
+  judged-by : (s : Settings) (word : ℕ) → judgedBy 0 [] s word ≡ judgedBy 1 (0 ∷ []) s word
+  judged-by s word = λ j.
+      andThen (same-answers .answers n s j)
+      (andThen (cond (leb (s .span) word) (refused 18) (taken [])) (cond (within f (boards n) && same-sets .tolerate f j) (taken []) (refused 23)))
+
   judged-same : (w : Width) → judgeHead w (empty w) ≡ judgeHead w (zero w)
   unfolding judgeHead numberAt encode
-  judged-same one = λ j.
-      andThen (same-answers .answers n (headSettings one (empty one)) j)
-      (andThen (cond (leb (headSettings one (empty one) .span) (headWord one (empty one))) (refused 18) (taken []))
-      (cond (within f (boards n) && same-sets .tolerate f j) (taken []) (refused 23)))
-  judged-same two = λ j.
-      andThen (same-answers .answers n (headSettings two (empty two)) j)
-      (andThen (cond (leb (headSettings two (empty two) .span) (headWord two (empty two))) (refused 18) (taken []))
-      (cond (within f (boards n) && same-sets .tolerate f j) (taken []) (refused 23)))
+  judged-same one = judged-by (headSettings one (empty one)) (headWord one (empty one))
+  judged-same two = judged-by (headSettings two (empty two)) (headWord two (empty two))
 
   -- The plans that they name are such a pair if the heads are accepted.
+  planned-by : (s : Settings) (word : ℕ) → judgedBy 0 [] s word .number ≡ 0 → EmptyAndZero (planned n [] s) (planned n (0 ∷ []) s)
+  planned-by s word e = same-answers .plans n s (both-taken (planning n 0 [] s) _ e .0)
+
   planned-same : (w : Width) → judgeHead w (empty w) .number ≡ 0 → EmptyAndZero (headOf w (empty w) .plan) (headOf w (zero w) .plan)
   unfolding judgeHead headOf numberAt encode
-  planned-same one e = same-answers .plans n (headSettings one (empty one)) (both-taken (planning n 0 [] (headSettings one (empty one))) _ e .0)
-  planned-same two e = same-answers .plans n (headSettings two (empty two)) (both-taken (planning n 0 [] (headSettings two (empty two))) _ e .0)
+  planned-same one e = planned-by (headSettings one (empty one)) (headWord one (empty one)) e
+  planned-same two e = planned-by (headSettings two (empty two)) (headWord two (empty two)) e
 
   faulty-same : (w : Width) → headOf w (empty w) .faulty ≡ headOf w (zero w) .faulty
   unfolding headOf encode
