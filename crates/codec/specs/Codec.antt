@@ -10,9 +10,9 @@ pub data Width : Type 0 where
   one : Width
   two : Width
 
--- The width of the code's values. 01: "In round 1 the dealer sends one byte"; 02 g makes it two.
+-- The width of the code's values. 02 g: "a value has two bytes, high byte first"; 01 has one.
 abbrev pub current : Width
-current = one
+current = two
 
 -- The bytes of a value.
 abbrev pub valueSize : Width → ℕ

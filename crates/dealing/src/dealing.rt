@@ -1,5 +1,7 @@
 // The dealer's frame.
 use codec::value::Value;
+use codec::value::high_byte;
+use codec::value::low_byte;
 use plan::plan::Plan;
 use protocol::answers::Dealt;
 use refusals::refusal::Refusal;
@@ -33,6 +35,6 @@ pub fn deal(plan: Plan, value: Value) -> Dealt
     let value_judged = judge_value(plan, value);
     match and_then(plan_judged, value_judged) {
         Verdict::Refused(why) => Dealt::Refused(why),
-        Verdict::Accepted => Dealt::Frame(value),
+        Verdict::Accepted => Dealt::Frame(high_byte(value), low_byte(value)),
     }
 }

@@ -24,9 +24,10 @@ fn dealer_frame(head: Head, frame: &mut [u8]) -> usize
 {
     let plan = head.plan;
     match deal(plan, head.word) {
-        Dealt::Frame(v) => {
-            frame[0] = v;
-            1
+        Dealt::Frame(high, low) => {
+            frame[0] = high;
+            frame[1] = low;
+            2
         }
         Dealt::Refused(_) => 0,
     }

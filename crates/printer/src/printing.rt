@@ -1,6 +1,8 @@
 // The lines of the boards, in uppercase hexadecimal.
 use codec::value::VALUE_SIZE;
 use codec::value::Value;
+use codec::value::high_byte;
+use codec::value::low_byte;
 use digits::writing::print_byte;
 use listing::listing::as_set;
 use protocol::limits::LINE;
@@ -24,7 +26,8 @@ fn print_value(out: &mut [u8], at: usize, v: Value)
     requires { ⌜ at + 2 * valueSize current ≤ length (now out) ⌝ }
     ensures { λ _. ⌜ now (out .exit) ≡ sets (now (out .entry)) at (hexValue current v []) ⌝ }
 {
-    print_byte(out, at, v);
+    print_byte(out, at, high_byte(v));
+    print_byte(out, at + 2, low_byte(v));
 }
 
 // Where a line's decision stands, its list, its place, and its newline.

@@ -25,13 +25,13 @@ injective : {A : Type 0} (says : A → Outcome) (back : Outcome → A) → ((a :
 injective says back h a b e = sym (h a) ∙ ap back e ∙ h b
 
 dealtBack : Outcome → Dealt
-dealtBack o = cond (eqb (o .number) 0) (D.Frame (getD (o .values) 0 0)) (D.Refused (why o))
+dealtBack o = cond (eqb (o .number) 0) (D.Frame (getD (o .values) 0 0) (getD (o .values) 1 0)) (D.Refused (why o))
 
 pub dealt-injective : (a b : Dealt) → dealtSays a ≡ dealtSays b → a ≡ b
 dealt-injective = injective dealtSays dealtBack back
   where
     back : (a : Dealt) → dealtBack (dealtSays a) ≡ a
-    back (D.Frame v) = unfold dealtSays dealtBack in refl
+    back (D.Frame h l) = unfold dealtSays dealtBack in refl
     back (D.Refused r) = unfold dealtSays dealtBack in rw (ne-eqb (refusal r .number) 0 (refusal-number r)) (ap D.Refused (why-refusal r))
 
 sentBack : Outcome → Sent

@@ -12,9 +12,9 @@ use Rattle.protocol.specs.declared.answers.Decision.the-variants as N
 use Rattle.protocol.specs.declared.answers.Played.{Played}
 use Rattle.protocol.specs.declared.answers.Played.the-variants as P
 
--- The dealer's frame: its byte.
+-- The dealer's frame: its two bytes, the high one first.
 unfoldable pub dealtSays : Dealt → Outcome
-dealtSays (D.Frame v) = taken (v ∷ [])
+dealtSays (D.Frame h l) = taken (h ∷ l ∷ [])
 dealtSays (D.Refused why) = refusal why
 
 -- Writing a frame: its length.

@@ -11,9 +11,9 @@ pub struct Begun {
     pub rec: Record,
 }
 
-// The dealer's frame: its byte.
+// The dealer's frame: its two bytes, the high one first.
 pub enum Dealt {
-    Frame(u8),
+    Frame(u8, u8),
     Refused(Refusal),
 }
 

@@ -1,5 +1,6 @@
 // The lines of a sheet, and what stands in a line.
 use codec::value::Value;
+use codec::value::value_of;
 use hex::reading::byte_at;
 ghost use mathlib.Core.Path.{_≡_};
 ghost use Prim.Native.Nat.{_-_};
@@ -37,5 +38,8 @@ pub fn values_of(line: &[u8]) -> &[u8]
 pub fn number_at(line: &[u8], k: usize) -> Value
     ensures { λ r. ⌜ r ≡ numberFrom current (now (line .entry)) k ⌝ }
 {
-    byte_at(line, k)
+    if line.len() <= k {
+        return 0;
+    }
+    value_of(byte_at(line, k), byte_at(line, k + 1))
 }
