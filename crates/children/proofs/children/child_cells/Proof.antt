@@ -1,9 +1,10 @@
 -- `child_cells` meets its contract: the cells of the children below c are read.
 -- Assumes nothing.
-use Prim.Native.Nat.{_-_}
+use Prim.Native.Nat.{_-_, _<_}
 use mathlib.Core.Path.{sym, _∙_}
 use mathlib.Core.Logic.{⊎-elim}
 use native.Mathlib.Omega.{arith}
+use lib.ListN.{length}
 use borrow.Author.Needs.{needs}
 use Rattle.sets.proofs.Tests.{not-t, not-f}
 use Rattle.children.proofs.Reading.{Reads, reads-start, reads-skip, reads-here, reads-end}
@@ -16,12 +17,16 @@ Inv-loop n boards from cells values₀ at₀ c₀ values at c = Reads n boards f
 abbrev μ-loop : tie.MeasureT-loop
 μ-loop n boards from cells values₀ at₀ c₀ values at c = n - c
 
-shared-slice-read-values : tie.Need-shared-slice-read-values Inv-loop μ-loop
-shared-slice-read-values c =
-    let x = c .before .before .before in
+-- The cell that is read.
+there : (c : tie.Then1 Inv-loop μ-loop) → let x = c .before .before .before in x .loop .at < length (x .before .before .args .cells .now)
+there c =
+    let x = c .before .before in
     let s = x .before .before .before in
     let l = x .before .loop in
-    omega (arith, l .inv .number, s .pre .there l.c (x .loop-test .taken) (sym (c .before .before .member .ensures) ∙ not-t _ (c .before .if1 .taken)))
+    omega (arith, l .inv .number, s .pre .there l.c (x .loop-test .taken) (sym (c .before .member .ensures) ∙ not-t _ (c .if1 .taken)))
+
+shared-slice-read-values : tie.Need-shared-slice-read-values Inv-loop μ-loop
+shared-slice-read-values c = there (c .before)
 
 array-write-values : tie.Need-array-write-values Inv-loop μ-loop
 array-write-values c =
@@ -48,8 +53,10 @@ child-cells-spec =
     μ-loop
     (λ c. reads-start)
     (λ c κs. search needs)
+    (λ c. search (needs, there c))
     shared-slice-read-values
     (λ c. search needs)
+    (λ c. let h = array-write-values c in search needs)
     array-write-values
     add-at
     (λ c. omega arith)

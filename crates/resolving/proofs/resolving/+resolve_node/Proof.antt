@@ -183,6 +183,12 @@ loop-again t c =
 vote-requires : (t : ℕ) → lts.Need-vote-requires (callees t) (at-t t) self.Post Inv-loop μ-loop
 vote-requires t c κs = let s = from-inner (c .before .before) in tabled (s .pre .1 .convertible)
 
+mul-cells : (t : ℕ) → lts.Need-mul-cells (callees t) (at-t t) self.Post Inv-loop μ-loop
+mul-cells t c =
+    let y = c .before .before in
+    let s = from-inner (y .before) in
+    search (needs, filling-there (s .pre .1 .convertible) (s .pre .1 .at-node) (y .loop .inv), filling-length (s .pre .1 .convertible) (s .pre .1 .at-node) (y .loop .inv))
+
 slice-write-cells : (t : ℕ) → lts.Need-slice-write-cells (callees t) (at-t t) self.Post Inv-loop μ-loop
 slice-write-cells t c =
     let y = c .before .before in
@@ -231,12 +237,14 @@ pub +resolve-node-spec : {M : Type 1} → statement M
     (sub-resolve-node t)
     (resolve-node-requires t)
     (λ c. search needs)
+    (λ c. let h = array-write-values t c in search needs)
     (array-write-values t)
     (add-child t)
     (add-c t)
     (λ c. let x = c .before .before in boards-left _ (x .before .loop .c) (x .loop-test .taken))
     (loop-again t)
     (vote-requires t)
+    (mul-cells t)
     (slice-write-cells t)
     (same-length-2 t)
     (returns-2 t)
