@@ -120,6 +120,10 @@ module _ {p : Plan} {holders : List ℕ} {i : ℕ} {before : List ℕ} (k : Conv
   pub place-fits : Fits w64 (start + index)
   place-fits = record { fits = omega (arith, place-below, cells-most (p .n) (k .most-boards)) }
 
+  -- Where the cell's bytes start.
+  pub bytes-fit : Fits w64 ((start + index) * 2)
+  bytes-fit = record { fits = omega (arith, place-below, cells-most (p .n) (k .most-boards)) }
+
   next-small : (size : ℕ) → size ≡ sizeWithin (p .n) level → start + size ≤ 1957
   next-small size e =
       omega (arith, st .start-is, start-within (p .n) level (k .some-board) (k .most-boards), start-next (p .n) level, start-most (p .n) (level + 1))

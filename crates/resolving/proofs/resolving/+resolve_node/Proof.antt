@@ -14,7 +14,7 @@ use borrow.Fn.PlainCycle.{Measures, is, falls, and}
 use Rattle.sets.proofs.Tests.{and-l, not-t, not-f}
 use Rattle.protocol.specs.Nodes.{internal}
 use Rattle.resolving.specs.Contracts.{node}
-use Rattle.resolving.proofs.Steps.{tabled, Filling, level-most, boards-below, inner-is, place-fits, place-there, next-fits, width-fits, first-fits, level-fits, left-falls, board-few, board-fits, boards-left, leaf-settles, filling-start, filling-length, filling-room, filling-there, number-small, filling-skip, child-stands, filling-here, filling-end}
+use Rattle.resolving.proofs.Steps.{tabled, Filling, level-most, boards-below, inner-is, place-fits, place-there, bytes-fit, next-fits, width-fits, first-fits, level-fits, left-falls, board-few, board-fits, boards-left, leaf-settles, filling-start, filling-length, filling-room, filling-there, number-small, filling-skip, child-stands, filling-here, filling-end}
 use Rattle.resolving.proofs.resolving.+resolve_node.Lts-resolve_node as lts
 use Rattle.resolving.proofs.resolving.+resolve_node.Tie.{close}
 use Rattle.resolving.proofs.resolving.+resolve_node.{statement}
@@ -187,7 +187,7 @@ mul-cells : (t : ℕ) → lts.Need-mul-cells (callees t) (at-t t) self.Post Inv-
 mul-cells t c =
     let y = c .before .before in
     let s = from-inner (y .before) in
-    search (needs, filling-there (s .pre .1 .convertible) (s .pre .1 .at-node) (y .loop .inv), filling-length (s .pre .1 .convertible) (s .pre .1 .at-node) (y .loop .inv))
+    bytes-fit (s .pre .1 .convertible) (s .pre .1 .at-node)
 
 slice-write-cells : (t : ℕ) → lts.Need-slice-write-cells (callees t) (at-t t) self.Post Inv-loop μ-loop
 slice-write-cells t c =
