@@ -1,2 +1,2 @@
-// Counting bytes, for programs that test.
+// Counting what has changed, for programs that test.
 pub mod counting;
