@@ -1,24 +1,38 @@
 -- `put_value` meets its contract.
 -- Assumes nothing.
-use Prim.Native.Nat.{suc, _+_, _*_}
-use mathlib.Core.Path.{_≡_, _∙_, ap₂}
-use mathlib.Core.List.{_∷_, _++_}
+use Prim.Native.Nat.{_+_, _*_}
+use mathlib.Core.Path.{_∙_, ap₂}
 use native.Mathlib.Omega.{arith}
-use lib.ListN.{take, drop}
-use lib.Seq.{set-split}
+use lib.ListN.{set, length-set}
 use borrow.Author.Needs.{needs}
-use Rattle.codec.specs.Codec.{current, valueSize, encode, written}
+use Rattle.codec.proofs.Codec.{written-pair}
 use Rattle.codec.proofs.value.put_value.Statement.{statement}
 use Rattle.codec.proofs.value.put_value.Tie as tie
 
+write-low : tie.Need-slice-write-out-2
+write-low c =
+    let high = c .before in
+    let start = high .before .before in
+    let a = start .args in
+    omega (arith, start .pre, length-set (a.out .now) (2 * a.i) (high .high-byte .result))
+
 returns : tie.Need-returns
-unfolding written encode
 returns c =
-    let a = c .args in
-    let at : a.i ≡ valueSize current * a.i = omega arith in
-    let past : suc a.i ≡ valueSize current * suc a.i = omega arith in
-    set-split (a.out .now) a.i a.v (omega arith)
-    ∙ ap₂ (λ j k. take j (a.out .now) ++ (a.v ∷ drop k (a.out .now))) at past
+    let high = c .before in
+    let start = high .before .before in
+    let a = start .args in
+    ap₂ (λ h l. set (set (a.out .now) (2 * a.i) h) (2 * a.i + 1) l) (high .high-byte .ensures) (c .low-byte .ensures)
+    ∙ written-pair (a.out .now) a.i a.v (omega (arith, start .pre))
 
 pub put-value-spec : {M : Type 1} → statement M
-put-value-spec = tie.close (tie.spec (λ c. search needs) (λ c. search needs) returns)
+put-value-spec = tie.close (
+  tie.spec
+  (λ c. search needs)
+  (λ c κs. search needs)
+  (λ c. search needs)
+  (λ c κs. search needs)
+  (λ c. search needs)
+  write-low
+  (λ c. search needs)
+  returns
+)
