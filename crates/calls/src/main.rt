@@ -1,7 +1,6 @@
 // Makes the calls of a script on standard input, each on what the call before left, and tells after each its answer,
 // the record, the output and the cells. tests/second/src/script.rs has the form of a script.
 use beginning::beginning::void;
-use codec::value::BLANK;
 use codec::value::VALUE_SIZE;
 use codec::value::Value;
 use codec::value::value_of;
@@ -14,13 +13,10 @@ use saying::said::Told;
 use saying::said::taken;
 use script::steps::BLOCK;
 use script::steps::START;
-use script::steps::Sizes;
 use script::steps::Step;
 use script::steps::sizes_of;
 use script::steps::step_of;
 use telling::reply::append_told;
-ghost use lib.ListN.{length};
-ghost use Rattle.script.specs.Steps.{Within};
 
 // The cells of seven boards, and a surplus.
 const CELLS: usize = 1957 + 11;
@@ -31,22 +27,33 @@ const REPLY: usize = 256 + OUT + CELLS * VALUE_SIZE;
 // The longest script, in steps.
 const STEPS: usize = 10000000;
 
-// The cells; at a fresh start all hold its value.
-fn started_cells(step: Step, cells: [Value; CELLS]) -> [Value; CELLS] {
-    let kind = step.kind;
-    if kind == 0 {
-        return [value_of(step.a, step.b); CELLS];
-    }
-    cells
+// All that a step gets and leaves.
+struct State {
+    rec: Record,
+    cells: [Value; CELLS],
+    out: [u8; OUT],
+    // Whether it could be told.
+    told: bool,
 }
 
-// The output; at a fresh start all of it is one byte.
-fn started_out(step: Step, out: [u8; OUT]) -> [u8; OUT] {
+// A fresh start: a void record, cells of one value, output of one byte.
+fn start(cell: Value, byte: u8) -> State {
+    let rec = void();
+    State {
+        rec: rec,
+        cells: [cell; CELLS],
+        out: [byte; OUT],
+        told: true,
+    }
+}
+
+// What a step begins with.
+fn before_step(step: Step, state: State) -> State {
     let kind = step.kind;
     if kind == 0 {
-        return [step.c; OUT];
+        return start(value_of(step.a, step.b), step.c);
     }
-    out
+    state
 }
 
 // A record that no call left.
@@ -58,23 +65,15 @@ fn put(rec: Record) -> Told {
     }
 }
 
-// One step: a fresh start, a call, or a change.
-fn take_step(
-    step: Step,
-    block: [u8; BLOCK],
-    sizes: Sizes,
-    r: Record,
-    cells: &mut [Value],
-    out: &mut [u8],
-) -> Told
-    requires { ⌜ Within sizes (length (now cells)) (length (now out)) 496 ⌝ }
-{
+// A call or a change; at a fresh start nothing more is done.
+fn act(step: Step, block: [u8; BLOCK], r: Record, cells: &mut [Value], out: &mut [u8]) -> Told {
     let kind = step.kind;
+    let sizes = sizes_of(block, cells.len(), out.len());
     let lent = sizes.lent;
     let room = sizes.room;
     let end = START + sizes.count;
     if kind == 0 {
-        return put(void());
+        return put(r);
     }
     if 8 < kind {
         return put(change(step, r, &block[START..end], &mut cells[lent..]));
@@ -89,33 +88,44 @@ fn take_step(
 }
 
 // Tells what a step left.
-fn tell(told: Told, out: &[u8], cells: &[Value]) -> bool {
+fn tell(block: [u8; BLOCK], told: Told, out: &[u8], cells: &[Value]) -> bool {
+    let sizes = sizes_of(block, cells.len(), out.len());
+    let shown = sizes.shown;
     let mut reply = [0u8; REPLY];
-    let end = append_told(&mut reply, told, out, cells);
+    let end = append_told(&mut reply, told, out, &cells[0..shown]);
     io::write_all(STDOUT_FILENO, &reply[0..end])
+}
+
+// One step, told.
+fn take_step(block: [u8; BLOCK], state: State) -> State {
+    let step = step_of(block);
+    let before = before_step(step, state);
+    let mut cells = before.cells;
+    let mut out = before.out;
+    let left = act(step, block, before.rec, &mut cells, &mut out);
+    let told = tell(block, left, &out, &cells);
+    let rec = left.rec;
+    State {
+        rec: rec,
+        cells: cells,
+        out: out,
+        told: told,
+    }
 }
 
 fn main() {
     let mut block = [0u8; BLOCK];
-    let mut cells = [BLANK; CELLS];
-    let mut out = [0u8; OUT];
-    let mut r = void();
+    let mut state = start(0, 0);
     let mut i: usize = 0;
     while i < STEPS {
         let count = io::read_full(STDIN_FILENO, &mut block);
         if count < BLOCK {
             return;
         }
-        let step = step_of(block);
-        cells = started_cells(step, cells);
-        out = started_out(step, out);
-        let sizes = sizes_of(block, CELLS, OUT);
-        let left = take_step(step, block, sizes, r, &mut cells, &mut out);
-        let shown = sizes.shown;
-        if !tell(left, &out, &cells[0..shown]) {
+        state = take_step(block, state);
+        if !state.told {
             return;
         }
-        r = left.rec;
         i += 1;
     }
 }
