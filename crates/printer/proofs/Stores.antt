@@ -1,6 +1,6 @@
 -- Lines as runs of stores.
 -- Assumes nothing.
-use Prim.Native.Nat.{ℕ, suc, _+_, _*_, _≤_}
+use Prim.Native.Nat.{ℕ, suc, _+_, _*_, _/_, _%_, _≤_}
 use mathlib.Core.Path.{_≡_, refl, ap, _∙_}
 use mathlib.Core.List.{List, [], _∷_, _++_}
 use native.Mathlib.Numerals.{add-two, add-four, add-six, add-eight}
@@ -21,6 +21,11 @@ pub stores-first : (l a : List ℕ) → length a ≤ length l → sets l 0 a ≡
 stores-first l a h =
     let z : 0 + length a ≡ length a = omega arith in
     sets-eq a l 0 (omega arith) ∙ ap (λ k. a ++ drop k l) z
+
+-- The digits of a value's two bytes.
+pub value-stores : (o : List ℕ) (at v : ℕ) → sets (sets o at (hexByte (v / 256) [])) (at + 2) (hexByte (v % 256) []) ≡ sets o at (hexValue two v [])
+unfolding encode hexByte hexBytes hexValue
+value-stores o at v = rw (add-two at) refl
 
 -- Where a line's list stands, its place, and its newline: behind the board and the decision.
 abbrev pub listAt : Width → ℕ

@@ -1,9 +1,10 @@
 -- `deal` meets its contract.
 -- Assumes nothing.
 use mathlib.Core.Path.{sym, ap, ap₂, _∙_}
+use mathlib.Core.List.{[], _∷_}
 use borrow.Author.Needs.{needs}
 use Rattle.codec.specs.Codec.{encode}
-use Rattle.refusals.specs.Outcome.{refusal, verdict, andThen}
+use Rattle.refusals.specs.Outcome.{taken, refusal, verdict, andThen}
 use Rattle.refusals.proofs.Outcomes.{refusal-number}
 use Rattle.protocol.specs.Answers.{dealtSays}
 use Rattle.dealing.proofs.Dealt.{deal-refused, deal-taken}
@@ -23,11 +24,14 @@ returns c =
 returns-2 : tie.Need-returns-2
 unfolding dealtSays verdict encode
 returns-2 c =
-    let judged = c .before .before in
+    let high = c .before in
+    let told = high .before in
+    let judged = told .before .before in
     let first = judged .before .before in
     let a = first .before .args in
-    deal-taken a.plan a.value
-    (ap verdict (sym (c .enum-told .given .1)) ∙ judged .and-then .ensures ∙ ap₂ andThen (first .judge .ensures) (judged .before .judge-value .ensures))
+    ap₂ (λ h l. taken (h ∷ l ∷ [])) (high .high-byte .ensures) (c .low-byte .ensures)
+    ∙ deal-taken a.plan a.value
+    (ap verdict (sym (told .enum-told .given .1)) ∙ judged .and-then .ensures ∙ ap₂ andThen (first .judge .ensures) (judged .before .judge-value .ensures))
 
 pub deal-spec : {M : Type 1} → statement M
 deal-spec =
@@ -38,5 +42,7 @@ deal-spec =
     (λ c κs. search needs)
     (λ c. search needs)
     (λ c. search needs)
+    (λ c κs. search needs)
+    (λ c κs. search needs)
     returns
     returns-2)
