@@ -1,2 +1,2 @@
-// Counting what has changed, for programs that test.
+// Counting cells, for programs that test.
 pub mod counting;
