@@ -61,6 +61,7 @@ clear-spec =
     μ-loop
     (λ c κs. search needs)
     loop-holds
+    (λ c. search needs)
     slice-write-cells
     (λ c. omega arith)
     (λ c. omega arith)

@@ -44,6 +44,7 @@ elects-spec =
     (tie.spec
     (λ c κs. search needs)
     returns
+    (λ c. search needs)
     (λ c. omega arith)
     returns-2
     (λ c κs. omega arith)

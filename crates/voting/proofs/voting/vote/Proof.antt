@@ -72,6 +72,7 @@ vote-spec =
     μ-loop
     loop-holds
     (λ c. search needs)
+    (λ c. search needs)
     array-read-v
     elects-requires
     returns
