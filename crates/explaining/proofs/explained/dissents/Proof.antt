@@ -12,4 +12,4 @@ returns-2 : tie.Need-returns-2
 returns-2 c = rw (sym (c .before .member .ensures) ∙ c .if1 .left)
 
 pub dissents-spec : {M : Type 1} → statement M
-dissents-spec = tie.close (tie.spec (λ c κs. search needs) returns (λ c. search needs) returns-2)
+dissents-spec = tie.close (tie.spec (λ c κs. search needs) returns (λ c. search needs) (λ c. search needs) returns-2)

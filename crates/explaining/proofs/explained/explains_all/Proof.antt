@@ -45,6 +45,7 @@ explains-all-spec =
     (tie.spec
     (λ c κs. search needs)
     returns
+    (λ c. search needs)
     (λ c. omega arith)
     returns-2
     (λ c κs. omega arith)

@@ -52,6 +52,9 @@ own c =
 add-value : tie.Need-add-value Inv-loop μ-loop
 add-value c = record { fits = omega (arith, own c .1) }
 
+mul-value : tie.Need-mul-value Inv-loop μ-loop
+mul-value c = search (needs, own c .1)
+
 shared-slice-read-value : tie.Need-shared-slice-read-value Inv-loop μ-loop
 shared-slice-read-value c = own (c .before) .1
 
@@ -118,6 +121,7 @@ write-at-spec =
     (λ c. search needs)
     (λ c κs. search needs)
     add-value
+    mul-value
     shared-slice-read-value
     (λ c κs. search needs)
     put-value-requires
