@@ -1,2 +1,2 @@
-// Counting bytes, for programs that test.
+// Counting cells, for programs that test.
 pub mod counting;

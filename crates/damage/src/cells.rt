@@ -1,22 +1,16 @@
 // Changes of the cells.
 use codec::value::Value;
+use codec::value::value_at;
+use codec::value::value_count;
 
-// The cells from a place on, changed; what does not fit is dropped.
+// The cells from a place on become these values; what does not fit is dropped.
 pub fn change_cells(cells: &mut [Value], values: &[u8]) {
+    let count = value_count(values);
     let mut i: usize = 0;
-    while i < values.len() {
+    while i < count {
         if i < cells.len() {
-            cells[i] = values[i];
+            cells[i] = value_at(values, i);
         }
-        i += 1;
-    }
-}
-
-// All bytes become x.
-pub fn fill(bytes: &mut [u8], x: u8) {
-    let mut i: usize = 0;
-    while i < bytes.len() {
-        bytes[i] = x;
         i += 1;
     }
 }

@@ -1,4 +1,6 @@
 // Changes of the record.
+use codec::value::Value;
+use codec::value::low_byte;
 use plan::plan::Plan;
 use protocol::records::Entry;
 use protocol::records::Record;
@@ -11,19 +13,21 @@ use schedule::rounds::Run;
 const SLOTS: u8 = 32;
 
 // A plan with another number: 0 n, 1 dealer, 2 span, 3 default, 4 depth, 5 count, from 32 on a slot of its sets.
-fn with_number(plan: Plan, field: u8, value: u8) -> Plan {
+// All but span and default take the low byte.
+fn with_number(plan: Plan, field: u8, value: Value) -> Plan {
+    let byte = low_byte(value);
     let mut next = plan;
     match field {
-        0 => next.n = value,
-        1 => next.dealer = value,
+        0 => next.n = byte,
+        1 => next.dealer = byte,
         2 => next.span = value,
         3 => next.default = value,
-        4 => next.depth = value,
-        5 => next.count = value,
+        4 => next.depth = byte,
+        5 => next.count = byte,
         _ => {
             if SLOTS <= field {
                 let place = ((field - SLOTS) % 32) as usize;
-                next.sets[place] = value;
+                next.sets[place] = byte;
             }
         }
     }
@@ -31,20 +35,22 @@ fn with_number(plan: Plan, field: u8, value: u8) -> Plan {
 }
 
 // A record with another number: 0 board, 1 run, 2 round, 3 marks, 4 decided, 5 decision; from 128 on one of its plan.
-pub fn change_field(r: Record, field: u8, value: u8) -> Record {
+// All but the decision, and a plan's span and default, take the low byte.
+pub fn change_field(r: Record, field: u8, value: Value) -> Record {
     let mut next = r;
     if 128 <= field {
         next.plan = with_number(r.plan, field - 128, value);
         return next;
     }
-    let run = Run(value);
-    let round = Round(value);
+    let byte = low_byte(value);
+    let run = Run(byte);
+    let round = Round(byte);
     match field {
-        0 => next.board = value,
+        0 => next.board = byte,
         1 => next.run = run,
         2 => next.round = round,
-        3 => next.marks = value,
-        4 => next.decided = value == 1,
+        3 => next.marks = byte,
+        4 => next.decided = byte == 1,
         5 => next.decision = value,
         _ => {}
     }

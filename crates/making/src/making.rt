@@ -2,6 +2,7 @@
 use beginning::beginning::begin;
 use closing::closing::close;
 use codec::value::Value;
+use codec::value::value_of;
 use dealing::dealing::deal;
 use deciding::deciding::decide;
 use flight::lent::close_own;
@@ -31,9 +32,9 @@ fn with_answer(rec: Record, said: Said) -> Told {
 fn make_plan(step: Step, r: Record, sets: &[u8]) -> Told {
     let settings = Settings {
         dealer: step.b,
-        span: step.c,
-        default: step.d,
-        depth: step.e,
+        span: value_of(step.c, step.d),
+        default: value_of(step.e, step.f),
+        depth: step.g,
     };
     let planned = Plan::new(step.a, sets, settings);
     let answer = planned.answer;
@@ -95,6 +96,6 @@ pub fn call(step: Step, r: Record, bytes: &[u8], cells: &mut [Value], out: &mut 
         5 => after_close(close(r, cells)),
         6 => after_close(close_own(r, cells)),
         7 => make_decide(r),
-        _ => make_deal(step.a, r),
+        _ => make_deal(value_of(step.a, step.b), r),
     }
 }

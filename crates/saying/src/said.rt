@@ -1,4 +1,6 @@
-// What a call answers: the number of the refusal, 0 for a call that is taken, and the values beside it.
+// What a call answers: the number of the refusal, 0 for a call that is taken, and the bytes beside it.
+use codec::value::high_byte;
+use codec::value::low_byte;
 use protocol::answers::Closing;
 use protocol::answers::Dealt;
 use protocol::answers::Decision;
@@ -10,7 +12,7 @@ use refusals::refusal::Verdict;
 
 pub struct Said {
     pub number: u8,
-    // How many values there are; the others are 0.
+    // How many bytes there are; the others are 0.
     pub count: u8,
     pub first: u8,
     pub second: u8,
@@ -23,7 +25,7 @@ pub struct Told {
     pub rec: Record,
 }
 
-// A call that is taken, with up to two values.
+// A call that is taken, with up to two bytes.
 pub fn taken(count: u8, first: u8, second: u8) -> Said {
     Said {
         number: 0,
@@ -78,14 +80,14 @@ pub fn closing_says(answer: Closing) -> Said {
 
 pub fn decision_says(answer: Decision) -> Said {
     match answer {
-        Decision::Value(v) => taken(1, v, 0),
+        Decision::Value(v) => taken(2, high_byte(v), low_byte(v)),
         Decision::Refused(why) => refused(why),
     }
 }
 
 pub fn dealt_says(answer: Dealt) -> Said {
     match answer {
-        Dealt::Frame(v) => taken(1, v, 0),
+        Dealt::Frame(high, low) => taken(2, high, low),
         Dealt::Refused(why) => refused(why),
     }
 }

@@ -7,7 +7,7 @@ pub const BLOCK: usize = 512;
 // Where its list of bytes starts: sets, a frame or cells.
 pub const START: usize = 16;
 
-// Which call or change a block says, and its numbers.
+// Which call or change a block says, and the bytes of its numbers.
 pub struct Step {
     pub kind: u8,
     pub a: u8,
@@ -15,6 +15,8 @@ pub struct Step {
     pub c: u8,
     pub d: u8,
     pub e: u8,
+    pub f: u8,
+    pub g: u8,
 }
 
 // What a block has of lengths.
@@ -54,6 +56,8 @@ pub fn step_of(block: [u8; BLOCK]) -> Step {
         c: block[3],
         d: block[4],
         e: block[5],
+        f: block[6],
+        g: block[7],
     }
 }
 
@@ -62,9 +66,9 @@ pub fn sizes_of(block: [u8; BLOCK], cells: usize, out: usize) -> Sizes
     ensures { λ s. ⌜ Within s cells out 496 ⌝ }
 {
     Sizes {
-        lent: number(block[6], block[7], cells),
-        shown: number(block[8], block[9], cells),
-        room: number(0, block[10], out),
-        count: number(block[11], block[12], BLOCK - START),
+        lent: number(block[8], block[9], cells),
+        shown: number(block[10], block[11], cells),
+        room: number(0, block[12], out),
+        count: number(block[13], block[14], BLOCK - START),
     }
 }

@@ -1,5 +1,7 @@
 // What is told after each step.
 use codec::value::Value;
+use codec::value::high_byte;
+use codec::value::low_byte;
 use listing::listing::as_set;
 use plan::plan::Plan;
 use protocol::records::Entry;
@@ -35,8 +37,10 @@ fn append_plan(reply: &mut [u8], at: usize, plan: Plan) -> usize
     let numbers = [
         plan.n,
         plan.dealer,
-        plan.span,
-        plan.default,
+        high_byte(plan.span),
+        low_byte(plan.span),
+        high_byte(plan.default),
+        low_byte(plan.default),
         plan.depth,
         plan.count,
     ];
@@ -103,11 +107,28 @@ fn append_record(reply: &mut [u8], at: usize, r: Record) -> usize
         set,
         r.marks,
         decided,
-        r.decision,
+        high_byte(r.decision),
+        low_byte(r.decision),
     ];
     let planned = append_plan(reply, at, r.plan);
     let listed = append_list(reply, planned, list);
     append(reply, listed, &numbers)
+}
+
+// Cells, as values.
+fn append_cells(reply: &mut [u8], at: usize, cells: &[Value]) -> usize
+    requires { ⌜ at ≤ length (now reply) ⌝ }
+    ensures { λ r. ⌜ r ≤ length (now (reply .exit)) ⌝ }
+{
+    let mut end = at;
+    let mut i: usize = 0;
+    while i < cells.len() {
+        let cell = cells[i];
+        let bytes = [high_byte(cell), low_byte(cell)];
+        end = append(reply, end, &bytes);
+        i += 1;
+    }
+    end
 }
 
 // The answer, the record, the output and the cells.
@@ -119,5 +140,5 @@ pub fn append_told(reply: &mut [u8], told: Told, out: &[u8], cells: &[Value]) ->
     let answered = append(reply, 0, &bytes);
     let recorded = append_record(reply, answered, told.rec);
     let written = append(reply, recorded, out);
-    append(reply, written, cells)
+    append_cells(reply, written, cells)
 }

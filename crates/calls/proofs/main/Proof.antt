@@ -9,10 +9,10 @@ use Rattle.calls.proofs.main.Statement.{statement}
 use Rattle.calls.proofs.main.Tie as tie
 
 abbrev Inv-loop : tie.InvT-loop
-Inv-loop block₀ cells₀ out₀ r₀ i₀ block cells out r i = (i ≤ 10000000) × (length block ≡ 512) × (length cells ≡ 1968) × (length out ≡ 128)
+Inv-loop block₀ state₀ i₀ block state i = (i ≤ 10000000) × (length block ≡ 512)
 
 abbrev μ-loop : tie.MeasureT-loop
-μ-loop block₀ cells₀ out₀ r₀ i₀ block cells out r i = 10000000 - i
+μ-loop block₀ state₀ i₀ block state i = 10000000 - i
 
 pub main-spec : {M : Type 1} → statement M
 main-spec =
@@ -24,14 +24,6 @@ main-spec =
     (λ c. search needs)
     (λ c. search needs)
     (λ c κs. search needs)
-    (λ c. search needs)
-    (λ c κs. search needs)
-    (λ c. search needs)
-    (λ c. search needs)
-    (λ c κs. search needs)
-    (λ c. search needs)
-    (λ c. search needs)
-    (λ c. search needs)
     (λ c. search needs)
     (λ c κs. search needs)
     (λ c. search needs)

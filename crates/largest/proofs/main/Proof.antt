@@ -10,7 +10,7 @@ use Rattle.largest.proofs.main.Statement.{statement}
 use Rattle.largest.proofs.main.Tie as tie
 
 abbrev Inv-loop : tie.InvT-loop
-Inv-loop cells₀ r out₀ i₀ cells out i = (i ≤ 100) × (length cells ≡ 1957) × (length out ≡ 2)
+Inv-loop cells₀ r out₀ i₀ cells out i = (i ≤ 100) × (length cells ≡ 1957) × (length out ≡ 3)
 
 abbrev μ-loop : tie.MeasureT-loop
 μ-loop cells₀ r out₀ i₀ cells out i = 100 - i
@@ -30,6 +30,9 @@ main-spec =
     (λ c κs. search needs)
     (λ c. search needs)
     (λ c. search needs)
+    (λ c κs. search needs)
+    (λ c. search needs)
+    (λ c κs. search needs)
     (λ c κs. search needs)
     (λ c. search needs)
     (λ c κs. search needs)

@@ -34,8 +34,10 @@ scatter-spec =
     Inv-loop
     μ-loop
     loop-holds
-    (λ c. search needs)
     (λ c. omega arith)
+    (λ c. omega arith)
+    (λ c. search needs)
+    (λ c. search needs)
     (λ c. omega arith)
     loop-less
     loop-again

@@ -10,10 +10,10 @@ use Rattle.damage.proofs.cells.change_cells.Statement.{statement}
 use Rattle.damage.proofs.cells.change_cells.Tie as tie
 
 abbrev Inv-loop : tie.InvT-loop
-Inv-loop cells₀ values i₀ cells i = length cells ≡ length cells₀
+Inv-loop cells₀ values count i₀ cells i = length cells ≡ length cells₀
 
 abbrev μ-loop : tie.MeasureT-loop
-μ-loop cells₀ values i₀ cells i = length values - i
+μ-loop cells₀ values count i₀ cells i = count - i
 
 loop-holds : tie.Need-loop-holds Inv-loop μ-loop
 loop-holds c = refl
@@ -35,7 +35,9 @@ change-cells-spec =
     (tie.spec
     Inv-loop
     μ-loop
+    (λ c κs. search needs)
     loop-holds
+    (λ c κs. search needs)
     (λ c. search needs)
     (λ c. search needs)
     (λ c. omega arith)
