@@ -18,6 +18,14 @@ carried-nodes-requires c κs =
     let e = known .before .before .before in
     carried-walkable (e .pre .standing) (e .pre .later) (e .args .board) (e .pre .standing .board-below) _ refl
 
+mul-length : tie.Need-mul-length
+mul-length c =
+    let listed = c .before in
+    let known = listed .before .before .before in
+    let e = known .before .before .before in
+    let x = listed .carried-nodes in
+    search (needs, front-fits (e .pre .standing) (e .pre .later) (e .args .board) (x .ensures) (e .pre .standing .board-below) (x .kept .1 .1 .1 .1 .1 .0), x .kept .1 .1 .1 .1 .1 .0)
+
 returns : tie.Need-returns
 unfolding sentSays refusal
 returns c =
@@ -78,4 +86,4 @@ returns-3 c =
 pub write-later-spec : {M : Type 1} → statement M
 write-later-spec =
     tie.close
-    (tie.spec (λ c. search needs) (λ c. search needs) carried-nodes-requires (λ c. search needs) (λ c κs. search needs) returns returns-2 (λ c. search needs) (λ c. search needs) part-write-at-end write-at-requires (λ c. search needs) returns-3)
+    (tie.spec (λ c. search needs) (λ c. search needs) carried-nodes-requires mul-length (λ c κs. search needs) returns returns-2 (λ c. search needs) (λ c. search needs) part-write-at-end write-at-requires (λ c. search needs) returns-3)

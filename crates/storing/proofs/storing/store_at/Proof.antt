@@ -65,6 +65,9 @@ stroke c =
 add-cells : tie.Need-add-cells Inv-loop μ-loop
 add-cells c = record { fits = omega (arith, stroke c .1) }
 
+mul-cells : tie.Need-mul-cells Inv-loop μ-loop
+mul-cells c = search (needs, stroke c .1)
+
 slice-write-cells : tie.Need-slice-write-cells Inv-loop μ-loop
 slice-write-cells c = stroke c .1
 
@@ -118,6 +121,7 @@ store-at-spec =
     (λ c κs. search needs)
     (λ c κs. search needs)
     add-cells
+    mul-cells
     slice-write-cells
     (λ c. omega arith)
     (λ c. omega arith)
