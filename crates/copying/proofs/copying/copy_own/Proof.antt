@@ -38,6 +38,17 @@ write-at-requires c κs =
     let few = front-few (e .pre .standing) (e .pre .later) (e .args .board) (x .ensures) (e .pre .standing .board-below) in
     record { are-nodes = front-nodes (e .pre .standing) (e .pre .later) (e .args .board) (x .ensures); enough = e .pre .enough; room = omega (arith, few) }
 
+mul-length : tie.Need-mul-length
+mul-length c =
+    let at-write-at = c .before in
+    let at-write-at-arg = at-write-at .before .before .before in
+    let at-carried-nodes = at-write-at-arg .before .before .before in
+    let at-nodes = at-carried-nodes .before in
+    let at-shared-slice-known = at-nodes .before .before .before in
+    let e = at-shared-slice-known .before in
+    let x = at-carried-nodes .carried-nodes in
+    search (needs, front-fits (e .pre .standing) (e .pre .later) (e .args .board) (x .ensures) (e .pre .standing .board-below) (x .kept .1 .1 .1 .1 .1 .0), x .kept .1 .1 .1 .1 .1 .0)
+
 part-store-at-end : tie.Need-part-store-at-end
 part-store-at-end c =
     let at-own = c .before .before .before in
@@ -111,7 +122,7 @@ copy-own-spec =
     part-write-at-end
     (λ c. search needs)
     write-at-requires
-    (λ c. search needs)
+    mul-length
     (λ c. search needs)
     (λ c. search needs)
     part-store-at-end

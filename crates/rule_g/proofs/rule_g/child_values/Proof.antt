@@ -1,9 +1,10 @@
 -- `child_values` meets its contract: the loop has read the children below c, and `at` is where the next one stands.
 -- Assumes nothing.
-use Prim.Native.Nat.{_+_, _-_, _≤_}
+use Prim.Native.Nat.{_+_, _-_, _≤_, _<_}
 use mathlib.Core.Path.{_≡_, sym, ap, _∙_}
 use mathlib.Core.Logic.{⊎-elim}
 use native.Mathlib.Omega.{arith}
+use lib.ListN.{length}
 use borrow.Author.Needs.{needs}
 use Rattle.sets.proofs.Tests.{not-t, not-f}
 use Rattle.tree.specs.Places.{outsideBelow}
@@ -27,13 +28,17 @@ loop-holds c =
     let a = c .before .args in
     (omega arith, omega (arith, outside-zero a.boards), sym (table-zero (kid a.plan a.boards a.from (a.cells .now)) a.boards))
 
-shared-slice-read-value : tie.Need-shared-slice-read-value Inv-loop μ-loop
-shared-slice-read-value c =
-    let at-member = c .before .before in
+-- The cell that is read.
+there : (c : tie.Then1 Inv-loop μ-loop) → let at-loop = c .before .before .before in at-loop .loop .at < length (at-loop .before .before .args .cells .now)
+there c =
+    let at-member = c .before in
     let at-loop = at-member .before .before in
     let e = at-loop .before .before in
     let l = at-loop .loop in
-    omega (arith, l .inv .1, e .pre .there l.c (omega arith) (sym (at-member .member .ensures) ∙ not-t _ (c .before .if1 .taken)))
+    omega (arith, l .inv .1, e .pre .there l.c (omega arith) (sym (at-member .member .ensures) ∙ not-t _ (c .if1 .taken)))
+
+shared-slice-read-value : tie.Need-shared-slice-read-value Inv-loop μ-loop
+shared-slice-read-value c = there (c .before)
 
 array-write-values : tie.Need-array-write-values Inv-loop μ-loop
 array-write-values c =
@@ -79,9 +84,11 @@ child-values-spec =
     μ-loop
     loop-holds
     (λ c κs. search needs)
+    (λ c. search (needs, there c))
     shared-slice-read-value
     (λ c κs. search needs)
     (λ c. search needs)
+    (λ c. let h = array-write-values c in search needs)
     array-write-values
     add-at
     (λ c. omega arith)
