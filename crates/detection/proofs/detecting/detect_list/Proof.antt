@@ -4,7 +4,7 @@ use Prim.Native.Nat.{_+_, _-_, _≤_}
 use mathlib.Core.Path.{_≡_, refl, sym, ap, _∙_}
 use mathlib.Core.List.{[]}
 use native.Mathlib.Omega.{arith}
-use mir.Syntax.{w8}
+use mir.Syntax.{w16}
 use mir.Val.{Fits}
 use lib.ListN.{length, getD, drop, drop-of-length-le}
 use borrow.Author.Needs.{needs}
@@ -34,7 +34,7 @@ detect-at-requires c κs =
     let at-loop = c .before .before .before in
     let at-known = at-loop .before .before .before in
     at-known .before .before in
-    let h : Fits w8 (e .args .plan .span) = search needs in
+    let h : Fits w16 (e .args .plan .span) = search needs in
     let at-loop = c .before .before .before in
     let at-level-start = at-loop .before in
     let l = at-loop .loop in
