@@ -26,7 +26,7 @@ use sound.WpLaws.{FmC, fmOf, WpFn-mono}
 use denote.RattleType.{RattleType, owns}
 use denote.Laws.{Is, shows}
 use denote.Memory.{mem}
-use denote.Builtin.{u8}
+use denote.Builtin.{u16}
 use denote.Ref.{RefT, MutRef, ptr-vals, mut-tells}
 use denote.Slice.{sliceVal, MutSlice, Room, finally, slice-vals, mut-slice-tells}
 use denote.Signature.{plain}
@@ -69,7 +69,7 @@ R = Rec.the-row
 
 -- What the body still has of each borrow at its end: the record's, and the cells' no more.
 abbrev stays : Stays (close-lent.ended .signature .params) (close-lent.ended .kept)
-stays = (stay-ref (0 ∷ []) tt (plain (λ _. R)), (gave-slice (1 ∷ []) tt (plain (λ _. u8)), tt))
+stays = (stay-ref (0 ∷ []) tt (plain (λ _. R)), (gave-slice (1 ∷ []) tt (plain (λ _. u16)), tt))
 
 -- The record and the answer as the machine holds them.
 abbrev bytes : Record → List Val
@@ -120,9 +120,9 @@ module _ {M : Type 1} (𝓤 : URA M) (H : Heap 𝓤) (A : Atoms 𝓤) (W : Given
 
   -- The end of the walk: what `close` ensured is what is promised.
   exits : (out : Closed) (zs : List ℕ) → Ensured h ys out zs → length zs ≡ length ys → Is Ans.the-row (out .answer) (word (out .answer))
-      → ent 𝓤 (⋆ 𝓤 H A (‵ (fobs γ (R .coded .code (out .rec))) ∷ ‵ (fbor κ (Body (mem R) b o γ)) ∷ ‵ (flft κ q) ∷ (‵ (flft κ′ q′) ⊛ ‵ ftrue) ∷ ‵ (finally u8 γ′ zs) ∷ [])) (Post (only (word (out .answer))))
+      → ent 𝓤 (⋆ 𝓤 H A (‵ (fobs γ (R .coded .code (out .rec))) ∷ ‵ (fbor κ (Body (mem R) b o γ)) ∷ ‵ (flft κ q) ∷ (‵ (flft κ′ q′) ⊛ ‵ ftrue) ∷ ‵ (finally u16 γ′ zs) ∷ [])) (Post (only (word (out .answer))))
   exits out zs e l is =
-      qed W (‵ (fobs γ (R .coded .code (out .rec))) ∷ ‵ (fbor κ (Body (mem R) b o γ)) ∷ ‵ (flft κ q) ∷ (‵ (flft κ′ q′) ⊛ ‵ ftrue) ∷ ‵ (finally u8 γ′ zs) ∷ []) ∵
+      qed W (‵ (fobs γ (R .coded .code (out .rec))) ∷ ‵ (fbor κ (Body (mem R) b o γ)) ∷ ‵ (flft κ q) ∷ (‵ (flft κ′ q′) ⊛ ‵ ftrue) ∷ ‵ (finally u16 γ′ zs) ∷ []) ∵
       suffices ! _ (ends-at 𝓤 H A close-lent.ended stays (close-lent.clauses 𝓤 H A at-mem run) W (((κ, (κ′, tt)), (q, (q′, tt)), bounds, args, vals), tt) (only (word (out .answer))) (out .answer) (out .rec, (zs, tt)) (tt, (l, tt))) $
       says ! (promised h ys out zs e) $ move ! (2 ∷ 3 ∷ []) $ join ! $ frame ! $
       feqI ! (List Val) (vptr b o ∷ []) (vptr b o ∷ []) refl $ fjoin3 ! $ nothing ! $ move ! (2 ∷ 0 ∷ []) $ fjoin ! $ move ! (1 ∷ 0 ∷ []) $ fjoin ! $
@@ -132,15 +132,15 @@ module _ {M : Type 1} (𝓤 : URA M) (H : Heap 𝓤) (A : Atoms 𝓤) (W : Given
   abbrev given : ByValue 𝓤 H A at-mem run .Ghost
   given = (((κ′, tt), (q′, tt), tt, (h, (cells, tt)), (bytes h, (slice ∷ [], tt))), tt)
 
-  gives : ent 𝓤 (sep 𝓤 (sep 𝓤 (A .lft κ′ q′) (sem 𝓤 H A ftrue)) (sep 𝓤 (sem 𝓤 H A (MutSlice (named 0) κ′ u8 .own cells (slice ∷ []))) (sem 𝓤 H A (R .own h (bytes h))))) (ByValue 𝓤 H A at-mem run .pre given)
+  gives : ent 𝓤 (sep 𝓤 (sep 𝓤 (A .lft κ′ q′) (sem 𝓤 H A ftrue)) (sep 𝓤 (sem 𝓤 H A (MutSlice (named 0) κ′ u16 .own cells (slice ∷ []))) (sem 𝓤 H A (R .own h (bytes h))))) (ByValue 𝓤 H A at-mem run .pre given)
   gives =
-      qed W ((‵ (flft κ′ q′) ⊛ ‵ ftrue) ∷ ‵ (MutSlice (named 0) κ′ u8 .own cells (slice ∷ [])) ∷ ‵ (R .own h (bytes h)) ∷ []) ∵
+      qed W ((‵ (flft κ′ q′) ⊛ ‵ ftrue) ∷ ‵ (MutSlice (named 0) κ′ u16 .own cells (slice ∷ [])) ∷ ‵ (R .own h (bytes h)) ∷ []) ∵
       nothing ! $ move ! (2 ∷ 0 ∷ []) $ fjoin ! $ move ! (2 ∷ 0 ∷ []) $ fjoin ! $ move ! (1 ∷ 0 ∷ []) $ join ! $ frame ! $ done !
 
   module _ (C : Calls 𝓤 H) (Λ : Loops 𝓤 H) (fm : FmC 𝓤 H (W .laws) C) (known : Triple 𝓤 (C #closing·close) (ByValue 𝓤 H A at-mem run)) where
-    walk : Room u8 (length ys) → ent 𝓤 (onEntry 𝓤 H A close-lent.signature (κ, (κ′, tt)) (q, (q′, tt)) args vals) (WpFn 𝓤 H C Λ code.function (vptr b o ∷ slice ∷ []) Post)
+    walk : Room u16 (length ys) → ent 𝓤 (onEntry 𝓤 H A close-lent.signature (κ, (κ′, tt)) (q, (q′, tt)) args vals) (WpFn 𝓤 H C Λ code.function (vptr b o ∷ slice ∷ []) Post)
     walk room =
-        qed W ((‵ (flft κ q) ⊛ ‵ (flft κ′ q′) ⊛ ‵ ftrue) ∷ ‵ (owns (MutRef (named 0) κ R ∷ MutSlice (named 1) κ′ u8 ∷ []) args vals) ∷ []) ∵
+        qed W ((‵ (flft κ q) ⊛ ‵ (flft κ′ q′) ⊛ ‵ ftrue) ∷ ‵ (owns (MutRef (named 0) κ R ∷ MutSlice (named 1) κ′ u16 ∷ []) args vals) ∷ []) ∵
         split ! $ move ! (2 ∷ []) $ fsplit ! $ fsplit3 ! $ drop ! $ move ! (2 ∷ []) $ fsplit ! $ move ! (2 ∷ 3 ∷ 4 ∷ 0 ∷ 5 ∷ []) $
         -- Room for the answer, the two arguments and the four locals.
         enter ! C Λ code.function (vptr b o ∷ slice ∷ []) _ $
@@ -177,13 +177,13 @@ module _ {M : Type 1} (𝓤 : URA M) (H : Heap 𝓤) (A : Atoms 𝓤) (W : Given
 -- The walk at every call.
 module _ {M : Type 1} (𝓤 : URA M) (H : Heap 𝓤) (A : Atoms 𝓤) (W : Given 𝓤 H A) (mem : Memory → SProp 𝓤) (run : Routine → Fun 𝓤) where
   close-lent-walks : (C : Calls 𝓤 H) (Λ : Loops 𝓤 H) → FmC 𝓤 H (W .laws) C → Triple 𝓤 (C #closing·close) (ByValue 𝓤 H A mem run) → Walks 𝓤 H A close-lent.ended stays (WpFn 𝓤 H C Λ code.function) (close-lent.clauses 𝓤 H A mem run)
-  close-lent-walks C Λ fm known = walked 𝓤 H A close-lent.ended stays (close-lent.clauses 𝓤 H A mem run) (WpFn 𝓤 H C Λ code.function) (λ κs. (ptr-vals, (slice-vals, tt))) (λ κs. (mut-tells (named 0) (κs .0) R, (mut-slice-tells (named 1) (κs .1 .0) u8, tt)))
+  close-lent-walks C Λ fm known = walked 𝓤 H A close-lent.ended stays (close-lent.clauses 𝓤 H A mem run) (WpFn 𝓤 H C Λ code.function) (λ κs. (ptr-vals, (slice-vals, tt))) (λ κs. (mut-tells (named 0) (κs .0) R, (mut-slice-tells (named 1) (κs .1 .0) u16, tt)))
       (λ κs qs bounds a _ are. via 𝓤 _ (fst∗ 𝓤 _ (emp 𝓤)) (walk 𝓤 H A W mem run (κs .0) (κs .1 .0) bounds (qs .0) (qs .1 .0) (a .0 .ptr .0) (a .0 .ptr .1) (a .0 .name) (a .0 .now) (a .1 .0 .ptr .0) (a .1 .0 .ptr .1) (a .1 .0 .name) (a .1 .0 .now) C Λ fm known (are .1 .0 .0 .1)))
 
 close-lent-meets : {M : Type 1} (𝓤 : URA M) (H : Heap 𝓤) (A : Atoms 𝓤) → Given 𝓤 H A → (mem : Memory → SProp 𝓤) (run : Routine → Fun 𝓤) (𝓣 : Tables 𝓤 H) → Triple 𝓤 (𝓣 .C #closing·close) (ByValue 𝓤 H A mem run)
     → Meets 𝓤 H A close-lent.signature (WpFn 𝓤 H (𝓣 .C) (𝓣 .Λ) code.function) (close-lent.spec 𝓤 H A mem run)
 close-lent-meets 𝓤 H A W mem run 𝓣 known =
-    walk-meets 𝓤 H A close-lent.ended stays W (goes-ref 𝓤 H A W 2 0 tt (plain (λ _. R)), (goes-gave-slice 𝓤 H A W 2 1 tt (plain (λ _. u8)), tt)) (close-lent.clauses 𝓤 H A mem run)
+    walk-meets 𝓤 H A close-lent.ended stays W (goes-ref 𝓤 H A W 2 0 tt (plain (λ _. R)), (goes-gave-slice 𝓤 H A W 2 1 tt (plain (λ _. u16)), tt)) (close-lent.clauses 𝓤 H A mem run)
     (WpFn 𝓤 H (𝓣 .C) (𝓣 .Λ) code.function) (WpFn-mono 𝓤 H (W .laws) 𝓣 code.function) (close-lent-walks 𝓤 H A W mem run (𝓣 .C) (𝓣 .Λ) (fmOf 𝓤 H (W .laws) 𝓣) known)
 
 pub close-lent-spec : {M : Type 1} → stated.statement M

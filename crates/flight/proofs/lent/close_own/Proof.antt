@@ -27,7 +27,7 @@ use sound.WpLaws.{FmC, fmOf, WpFn-mono}
 use denote.RattleType.{RattleType, owns}
 use denote.Laws.{Is, shows}
 use denote.Memory.{mem, cellAt, partAt, partOf}
-use denote.Builtin.{u8}
+use denote.Builtin.{u16}
 use denote.Exit.{yes}
 use denote.Ref.{RefT, MutRef}
 use denote.Slice.{sliceVal, MutSlice, Room, finally, slice-vals, mut-slice-tells}
@@ -73,7 +73,7 @@ R = Rec.the-row
 
 -- What the body still has of its parameters at its end: the record, and the cells' borrow no more.
 abbrev stays : Stays (close-own.ended .signature .params) (close-own.ended .kept)
-stays = (stay-none (λ _. R) yes, (gave-slice (0 ∷ []) tt (plain (λ _. u8)), tt))
+stays = (stay-none (λ _. R) yes, (gave-slice (0 ∷ []) tt (plain (λ _. u16)), tt))
 
 -- The record, and the answer and the record together, as the machine holds them.
 abbrev bytes : Record → List Val
@@ -143,9 +143,9 @@ module _ {M : Type 1} (𝓤 : URA M) (H : Heap 𝓤) (A : Atoms 𝓤) (W : Given
 
   -- The end of the walk.
   exits : (x : Closing) (w : Record) (zs : List ℕ) → Promised x w zs → length zs ≡ length ys → Is R h (bytes h) → Is Out.the-row (outcome x w) (both (outcome x w))
-      → ent 𝓤 (⋆ 𝓤 H A ((‵ (flft κ′ q′) ⊛ ‵ ftrue) ∷ ‵ (finally u8 γ′ zs) ∷ [])) (Post (only (both (outcome x w))))
+      → ent 𝓤 (⋆ 𝓤 H A ((‵ (flft κ′ q′) ⊛ ‵ ftrue) ∷ ‵ (finally u16 γ′ zs) ∷ [])) (Post (only (both (outcome x w))))
   exits x w zs e l is-h is-out =
-      qed W ((‵ (flft κ′ q′) ⊛ ‵ ftrue) ∷ ‵ (finally u8 γ′ zs) ∷ []) ∵
+      qed W ((‵ (flft κ′ q′) ⊛ ‵ ftrue) ∷ ‵ (finally u16 γ′ zs) ∷ []) ∵
       suffices ! _ (ends-at 𝓤 H A close-own.ended stays (close-own.clauses 𝓤 H A at-mem run) W (((κ′, tt), (q′, tt), bounds, (h, (cells, tt)), vals), tt) (only (both (outcome x w))) (outcome x w) (tt, (zs, tt)) (tt, (l, tt))) $
       says ! e $ frame ! $ nothing ! $ move ! (1 ∷ 0 ∷ []) $ fjoin ! $
       owned ! R (Is R) (Fields.makes Rec.the-type Rec′.the-plain 𝓤 H A) h _ is-h $ fjoin ! $
@@ -159,15 +159,15 @@ module _ {M : Type 1} (𝓤 : URA M) (H : Heap 𝓤) (A : Atoms 𝓤) (W : Given
   abbrev handed : ℕ → ℕ → GName → Lending 𝓤 H A at-mem run .Ghost
   handed l α δ = (((α ∷ [], (κ′, tt)), (fullShare, (q′, tt)), tt, (lent l α δ, (cells, tt)), (vptr l 0 ∷ [], (slice ∷ [], tt))), tt)
 
-  hands : (l α : ℕ) (δ : GName) → ent 𝓤 (sep 𝓤 (sep 𝓤 (A .lft (α ∷ []) fullShare) (sep 𝓤 (A .lft κ′ q′) (sem 𝓤 H A ftrue))) (sep 𝓤 (sem 𝓤 H A (MutRef (named 0) (α ∷ []) R .own (lent l α δ) (vptr l 0 ∷ []))) (sem 𝓤 H A (MutSlice (named 1) κ′ u8 .own cells (slice ∷ []))))) (Lending 𝓤 H A at-mem run .pre (handed l α δ))
+  hands : (l α : ℕ) (δ : GName) → ent 𝓤 (sep 𝓤 (sep 𝓤 (A .lft (α ∷ []) fullShare) (sep 𝓤 (A .lft κ′ q′) (sem 𝓤 H A ftrue))) (sep 𝓤 (sem 𝓤 H A (MutRef (named 0) (α ∷ []) R .own (lent l α δ) (vptr l 0 ∷ []))) (sem 𝓤 H A (MutSlice (named 1) κ′ u16 .own cells (slice ∷ []))))) (Lending 𝓤 H A at-mem run .pre (handed l α δ))
   hands l α δ =
-      qed W ((‵ (flft (α ∷ []) fullShare) ⊛ ‵ (flft κ′ q′) ⊛ ‵ ftrue) ∷ ‵ (MutRef (named 0) (α ∷ []) R .own (lent l α δ) (vptr l 0 ∷ [])) ∷ ‵ (MutSlice (named 1) κ′ u8 .own cells (slice ∷ [])) ∷ []) ∵
+      qed W ((‵ (flft (α ∷ []) fullShare) ⊛ ‵ (flft κ′ q′) ⊛ ‵ ftrue) ∷ ‵ (MutRef (named 0) (α ∷ []) R .own (lent l α δ) (vptr l 0 ∷ [])) ∷ ‵ (MutSlice (named 1) κ′ u16 .own cells (slice ∷ [])) ∷ []) ∵
       nothing ! $ move ! (3 ∷ 0 ∷ []) $ fjoin ! $ move ! (2 ∷ 0 ∷ []) $ fjoin ! $ move ! (1 ∷ 0 ∷ []) $ join ! $ frame ! $ done !
 
   module _ (C : Calls 𝓤 H) (Λ : Loops 𝓤 H) (fm : FmC 𝓤 H (W .laws) C) (known : Triple 𝓤 (C #flight·close-lent) (Lending 𝓤 H A at-mem run)) where
-    walk : Is R h (bytes h) → Room u8 (length ys) → ent 𝓤 (onEntry 𝓤 H A close-own.signature (κ′, tt) (q′, tt) (h, (cells, tt)) vals) (WpFn 𝓤 H C Λ code.function (only (bytes h) ∷ slice ∷ []) Post)
+    walk : Is R h (bytes h) → Room u16 (length ys) → ent 𝓤 (onEntry 𝓤 H A close-own.signature (κ′, tt) (q′, tt) (h, (cells, tt)) vals) (WpFn 𝓤 H C Λ code.function (only (bytes h) ∷ slice ∷ []) Post)
     walk is-h room =
-        qed W ((‵ (flft κ′ q′) ⊛ ‵ ftrue) ∷ ‵ (owns (R ∷ MutSlice (named 0) κ′ u8 ∷ []) (h, (cells, tt)) vals) ∷ []) ∵
+        qed W ((‵ (flft κ′ q′) ⊛ ‵ ftrue) ∷ ‵ (owns (R ∷ MutSlice (named 0) κ′ u16 ∷ []) (h, (cells, tt)) vals) ∷ []) ∵
         move ! (1 ∷ []) $ fsplit ! $ drop ! $ fsplit ! $
         -- Room for the result, the two arguments and the six locals.
         enter ! C Λ code.function (only (bytes h) ∷ slice ∷ []) _ $
@@ -208,13 +208,13 @@ module _ {M : Type 1} (𝓤 : URA M) (H : Heap 𝓤) (A : Atoms 𝓤) (W : Given
 -- The walk at every call.
 module _ {M : Type 1} (𝓤 : URA M) (H : Heap 𝓤) (A : Atoms 𝓤) (W : Given 𝓤 H A) (mem : Memory → SProp 𝓤) (run : Routine → Fun 𝓤) where
   close-own-walks : (C : Calls 𝓤 H) (Λ : Loops 𝓤 H) → FmC 𝓤 H (W .laws) C → Triple 𝓤 (C #flight·close-lent) (Lending 𝓤 H A mem run) → Walks 𝓤 H A close-own.ended stays (WpFn 𝓤 H C Λ code.function) (close-own.clauses 𝓤 H A mem run)
-  close-own-walks C Λ fm known = walked 𝓤 H A close-own.ended stays (close-own.clauses 𝓤 H A mem run) (WpFn 𝓤 H C Λ code.function) (λ κs. (bytes, (slice-vals, tt))) (λ κs. (Fields.tells Rec.the-type Rec′.the-laws, (mut-slice-tells (named 0) (κs .0) u8, tt)))
+  close-own-walks C Λ fm known = walked 𝓤 H A close-own.ended stays (close-own.clauses 𝓤 H A mem run) (WpFn 𝓤 H C Λ code.function) (λ κs. (bytes, (slice-vals, tt))) (λ κs. (Fields.tells Rec.the-type Rec′.the-laws, (mut-slice-tells (named 0) (κs .0) u16, tt)))
       (λ κs qs bounds a _ are. via 𝓤 _ (fst∗ 𝓤 _ (emp 𝓤)) (walk 𝓤 H A W mem run (κs .0) bounds (qs .0) (a .0) (a .1 .0 .ptr .0) (a .1 .0 .ptr .1) (a .1 .0 .name) (a .1 .0 .now) C Λ fm known (are .0) (are .1 .0 .0 .1)))
 
 close-own-meets : {M : Type 1} (𝓤 : URA M) (H : Heap 𝓤) (A : Atoms 𝓤) → Given 𝓤 H A → (mem : Memory → SProp 𝓤) (run : Routine → Fun 𝓤) (𝓣 : Tables 𝓤 H) → Triple 𝓤 (𝓣 .C #flight·close-lent) (Lending 𝓤 H A mem run)
     → Meets 𝓤 H A close-own.signature (WpFn 𝓤 H (𝓣 .C) (𝓣 .Λ) code.function) (close-own.spec 𝓤 H A mem run)
 close-own-meets 𝓤 H A W mem run 𝓣 known =
-    walk-meets 𝓤 H A close-own.ended stays W (goes-none 𝓤 H A W 1 (λ _. R) yes (λ κs x f. refl), (goes-gave-slice 𝓤 H A W 1 0 tt (plain (λ _. u8)), tt)) (close-own.clauses 𝓤 H A mem run)
+    walk-meets 𝓤 H A close-own.ended stays W (goes-none 𝓤 H A W 1 (λ _. R) yes (λ κs x f. refl), (goes-gave-slice 𝓤 H A W 1 0 tt (plain (λ _. u16)), tt)) (close-own.clauses 𝓤 H A mem run)
     (WpFn 𝓤 H (𝓣 .C) (𝓣 .Λ) code.function) (WpFn-mono 𝓤 H (W .laws) 𝓣 code.function) (close-own-walks 𝓤 H A W mem run (𝓣 .C) (𝓣 .Λ) (fmOf 𝓤 H (W .laws) 𝓣) known)
 
 pub close-own-spec : {M : Type 1} → stated.statement M
