@@ -34,6 +34,15 @@ add-e c =
 mul-a : tie.Need-mul-a Inv-loop μ-loop
 mul-a c = record { fits = omega (arith, add-e c .fits) }
 
+mul-act-one : tie.Need-mul-act-one Inv-loop μ-loop
+mul-act-one c =
+    let in-loop = c .before .before .before in
+    let turned = in-loop .before in
+    let counted = turned .before in
+    let start = counted .before .before .before in
+    let head = start .args .head in
+    search (needs, part-inside head (start .args .cells .now) (start .pre) (turned .loop .i) (counted .cell-count .result) (counted .cell-count .ensures) (omega arith))
+
 part-act-one-end : tie.Need-part-act-one-end Inv-loop μ-loop
 part-act-one-end c =
     let in-loop = c .before .before .before in
@@ -97,6 +106,7 @@ act-all-spec =
     add-e
     (λ c. search needs)
     (λ c. search needs)
+    mul-act-one
     (λ c. search needs)
     (λ c. search needs)
     part-act-one-end
