@@ -30,6 +30,14 @@ add-e c =
     let inside = part-inside (start .args .head) (start .args .cells .now) (start .pre .roomy) (start .args .q) (c .cell-count .result) (c .cell-count .ensures) (start .pre .sender) in
     record { fits = omega (arith, inside) }
 
+mul-frame-of : tie.Need-mul-frame-of
+mul-frame-of c =
+    let counted = c .before in
+    let at-member = counted .before .before in
+    let start = at-member .before .before .before in
+    let size = counted .cell-count in
+    search (needs, part-inside (start .args .head) (start .args .cells .now) (start .pre .roomy) (start .args .q) (size .result) (size .ensures) (start .pre .sender))
+
 part-frame-of-end : tie.Need-part-frame-of-end
 part-frame-of-end c =
     let counted = c .before in
@@ -68,6 +76,7 @@ sender-frame-spec =
     add-e
     (λ c. search needs)
     (λ c. search needs)
+    mul-frame-of
     (λ c. search needs)
     (λ c. search needs)
     part-frame-of-end
