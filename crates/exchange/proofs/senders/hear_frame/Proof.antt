@@ -40,6 +40,16 @@ add-e c =
 mul-a : tie.Need-mul-a Inv-loop μ-loop
 mul-a c = record { fits = omega (arith, add-e c .fits) }
 
+mul-hear-from : tie.Need-mul-hear-from Inv-loop μ-loop
+mul-hear-from c =
+    let keeps = c .before .before in
+    let turned = keeps .before .before .before in
+    let counted = turned .before in
+    let lent = counted .before .before in
+    let start = lent .before .before in
+    let size = counted .cell-count in
+    record { fits = omega (arith, part-small (start .args .head) (start .args .cells .now) (start .pre .ready .roomy) (turned .loop .i) (size .result) (size .ensures) (omega arith)) }
+
 part-hear-from-end : tie.Need-part-hear-from-end Inv-loop μ-loop
 part-hear-from-end c =
     let keeps = c .before .before in
@@ -139,6 +149,7 @@ hear-frame-spec =
     add-e
     (λ c. search needs)
     (λ c. search needs)
+    mul-hear-from
     (λ c. search needs)
     (λ c. search needs)
     part-hear-from-end
