@@ -12,7 +12,7 @@ pub enum Width {
 }
 
 /// The width that the programs use.
-pub const CURRENT: Width = Width::One;
+pub const CURRENT: Width = Width::Two;
 
 /// Where the numbers of a head start, in bytes. n stands at 0, F after the sets.
 #[derive(Clone, Copy, Debug, PartialEq, Eq)]
