@@ -257,18 +257,19 @@ impl<'a> Liar<'a> {
         keepers[&witness].cells[label]
     }
 
-    /// Makes a frame too short or too long, by any number of bytes.
+    /// Makes a frame too short or too long, by any number of bytes, at times by 256 bytes or by 256 values.
     fn bend(&mut self, frame: &mut Vec<u8>) {
         match self.rng.below(16) {
             0..=7 => frame.truncate(self.rng.below(frame.len())),
-            8..=13 => {
+            8..=14 => {
                 for _ in 0..1 + self.rng.below(3) {
                     frame.push(self.rng.byte());
                 }
             }
             _ => {
-                let times = 1 + self.rng.below(self.width.bytes());
-                frame.resize(frame.len() + 256 * times, 0);
+                let values = self.width == Width::Two && self.rng.chance(1, 2);
+                let more = if values { 512 } else { 256 };
+                frame.resize(frame.len() + more, 0);
             }
         }
     }
@@ -301,9 +302,10 @@ fn likely(width: Width, span: Value, rng: &mut Prng) -> Value {
 /// Two values that most lies use; of two bytes at times they differ in one byte alone.
 pub fn common(width: Width, span: Value, rng: &mut Prng) -> [Value; 2] {
     let [first, second] = [0, 1].map(|_| likely(width, span, rng));
-    let near = width == Width::Two && span > 256 && rng.chance(1, 2);
-    let other = first ^ rng.pick(&[0x0001, 0x0080, 0x0100, 0x8000]);
-    let second = if near && other < span { other } else { second };
+    if width == Width::Two && rng.chance(1, 2) {
+        let other = first ^ rng.pick(&[0x0001, 0x0080, 0x0100, 0x8000]);
+        return [first, if other < span { other } else { second }];
+    }
     [first, second]
 }
 
