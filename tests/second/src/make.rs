@@ -62,6 +62,20 @@ pub fn plan(width: Width, rng: &mut Prng) -> Plan {
         1, 2, 3, 3, 4, 4, 4, 5, 5, 5, 5, 6, 6, 6, 6, 6, 6, 7, 7, 7, 7,
     ]);
     let sets = sets(n, rng);
+    plan_of(width, n, sets, rng)
+}
+
+/// An accepted plan with the longest frames, of 120 values: seven boards, and a set of six that holds the dealer.
+pub fn deepest_plan(width: Width, rng: &mut Prng) -> Plan {
+    let outside = rng.below(7) as u8;
+    let mut plan = plan_of(width, 7, vec![all(7) & !set_of([outside])], rng);
+    plan.dealer = (outside + 1 + rng.below(6) as u8) % 7;
+    plan.depth = rng.pick(&[0, 7]);
+    plan
+}
+
+/// An accepted plan with these sets.
+fn plan_of(width: Width, n: u8, sets: Vec<Set>, rng: &mut Prng) -> Plan {
     let largest = width.blank();
     let span = match rng.below(8) {
         0 => largest,

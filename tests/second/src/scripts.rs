@@ -349,7 +349,10 @@ impl Maker {
 
     fn foreign(&mut self) {
         self.kind = "foreign";
-        let plan = make::plan(self.width, &mut self.rng);
+        let plan = match self.rng.below(12) {
+            0 => make::deepest_plan(self.width, &mut self.rng),
+            _ => make::plan(self.width, &mut self.rng),
+        };
         self.start(&plan);
         let boards: Vec<u8> = (0..plan.n).filter(|b| *b != plan.dealer).collect();
         if boards.is_empty() {
