@@ -6,7 +6,7 @@ use crate::width::{Value, Width};
 /// A kind of accepted sheets, by name.
 pub type Kind = (&'static str, fn(&Outcome) -> bool);
 
-const KINDS: [Kind; 21] = [
+const KINDS: [Kind; 22] = [
     ("span 2", |o| o.plan.span == 2),
     ("span 255", |o| o.plan.span == 255),
     ("span 256", |o| o.plan.span == 256),
@@ -22,6 +22,11 @@ const KINDS: [Kind; 21] = [
     }),
     ("decision of 255, span above it", |o| {
         o.plan.span > 255 && decides(o, |value| value == 255)
+    }),
+    ("unequal roots above 255", |o| {
+        let above = |run: usize| o.roots[run - 1].iter().all(|root| *root > 255);
+        let mut runs = 1..=o.roots.len();
+        runs.any(|run| above(run) && o.unequal_after(run))
     }),
     ("value of m - 1, m above 256", |o| {
         o.plan.span > 256 && o.told.contains(&(o.plan.span - 1))

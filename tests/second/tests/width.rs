@@ -7,8 +7,8 @@ use second::scripts::Script;
 use second::sheet::{read_at, CELLS, LONGEST};
 use second::width::Head;
 use second::{
-    corpus, make, play_at, play_lent, print, session, wide, widen, Mistake, Outcome, Refusal,
-    Sheet, Value, Width,
+    chain, corpus, make, play_at, play_lent, print, session, wide, widen, Mistake, Outcome,
+    Refusal, Sheet, Value, Width,
 };
 use std::collections::{BTreeMap, BTreeSet};
 use Width::{One, Two};
@@ -439,6 +439,34 @@ fn few_values_are_enough() {
         played += 1;
     }
     assert!(played > 500, "{played}");
+}
+
+/// Kept sheets of 0 and 1 with two other values in their stead, which may differ in one byte alone: the decision and the
+/// roots are renamed, and all else is the same.
+#[test]
+fn values_are_renamed() {
+    let mut renamed = 0;
+    for (name, text) in corpus::load() {
+        let Ok(outcome) = play_at(Two, &text, None) else {
+            continue;
+        };
+        if outcome.plan.span != 2 || outcome.told.iter().any(|value| *value > 1) {
+            continue;
+        }
+        for (span, zero, one) in [(257, 256, 0), (0xFFFF, 0x0105, 0x0205), (0x8001, 1, 0x8000)] {
+            let mut sheet = read_at(Two, &text, None).unwrap();
+            chain::rename(&mut sheet, span, zero, one);
+            let other = session::play_sheet(&sheet, None);
+            let (mut lines, mut roots) = (outcome.lines.clone(), outcome.roots.clone());
+            let decisions = lines.iter_mut().map(|line| &mut line.decision);
+            let all = decisions.chain(roots.iter_mut().flatten());
+            all.for_each(|value| *value = if *value == 0 { zero } else { one });
+            assert_eq!((lines, roots), (other.lines, other.roots), "{name}");
+            assert_eq!(outcome.lists, other.lists, "{name}");
+            renamed += 1;
+        }
+    }
+    assert!(renamed > 100, "{renamed}");
 }
 
 /// Scripts of two bytes tell every mistake about them.
