@@ -292,7 +292,7 @@ fn longest_when_widened() -> String {
 fn limits_are_widened() {
     let longest = longest_when_widened();
     let unended = longest.strip_suffix('\n').unwrap();
-    // Accepted; 21, 24 and 21, the last two too long when widened; too long at both widths; short ones.
+    // What each meets at one byte and, widened, at two; 0 if it is accepted.
     let sheets = [
         (longest.clone(), [0, 0]),
         (unended.into(), [21, 21]),
@@ -307,13 +307,14 @@ fn limits_are_widened() {
     for (text, expected) in sheets {
         let wider = widened(&text);
         let rooms = [0, 62, 63, 64, 76, 77, 78];
-        for (output, cells) in rooms.iter().flat_map(|o| [(*o, CELLS - 1), (*o, CELLS)]) {
+        for (output, cells) in rooms.iter().flat_map(|o| [(*o, 13_698), (*o, 13_699)]) {
             let play = |width, text: &str| play_lent(width, text.as_bytes(), output, cells);
-            for (width, text, number) in [(One, &text, expected[0]), (Two, &wider, expected[1])] {
+            let [one, two] = expected;
+            for (width, text, number, needed) in [(One, &text, one, 63), (Two, &wider, two, 77)] {
                 let first = match number {
                     20 => 20,
-                    _ if output < width.output_needed() => 17,
-                    _ if cells < CELLS => 11,
+                    _ if output < needed => 17,
+                    _ if cells < 13_699 => 11,
                     number => number,
                 };
                 let met = play(width, text).err();
