@@ -33,15 +33,20 @@ for sheet in tests/cases/*.sheet; do
     play "$name" "$sheet" "tests/cases/$name.out"
 done
 
-# Case 7 with so many values from the dealer to board 3 that the sheet has 65,536 bytes. That frame counts as the
-# default, which is 0.
-{
-    head -n 3 tests/cases/case-7.sheet
+# Case 7 with so many bytes from the dealer to board 3 that the sheet has 65,536 bytes. Their number is odd; with one set
+# more in the head, the set 00, it is even: 16,367 values. Either frame counts as the default, which is 0.
+# longest SHEET DIGITS: the first three lines, and a frame of so many digits.
+longest() {
+    head -n 3 "tests/cases/$1.sheet"
     printf 01010003
-    head -c 65480 /dev/zero | tr '\0' 7
+    head -c "$2" /dev/zero | tr '\0' 7
     echo
-} >"$folder/longest"
-made longest 65536 '01050000\n02050000\n03050000\n'
+}
+decided='0100050000\n0200050000\n0300050000\n'
+longest case-7 65470 >"$folder/longest-odd"
+made longest-odd 65536 "$decided"
+longest place-nobody-listed 65468 >"$folder/longest"
+made longest 65536 "$decided"
 
 # The same with a digit for the last newline: 21, line 4.
 {

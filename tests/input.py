@@ -99,7 +99,7 @@ def reading():
         case("reset after %d lines" % count, b"", READ, stdin=near)
         near.close()
     # The same lines at the input's end are played: it is the failing read that is told.
-    pipe_case("two lines", lambda pipe: os.write(pipe, b"".join(LINES[:2])), b"01000000\n02000000\n03000000\n")
+    pipe_case("two lines", lambda pipe: os.write(pipe, b"".join(LINES[:2])), b"0100000000\n0200000000\n0300000000\n")
     waiting, kept = os.pipe()
     os.set_blocking(waiting, False)
     case("nothing there yet, and a read that does not wait", b"", READ, stdin=waiting)
@@ -114,7 +114,7 @@ def parts():
     pipe_case("writer ends inside a line", lambda pipe: os.write(pipe, text + LINES[2][:5]), b"FF150003\n")
     pipe_case("writer ends before a newline", lambda pipe: os.write(pipe, SHEET[:-1]), b"FF150004\n")
     pipe_case("writer ends at a line's end", lambda pipe: os.write(pipe, b"".join(LINES[:3])),
-              b"01050000\n02050000\n03050000\n")
+              b"0100050000\n0200050000\n0300050000\n")
     pipe_case("empty input", lambda pipe: None, b"FF160001\n")
     pipe_case("one byte at a time", one_by_one(SHEET), PRINTED)
     pipe_case("a pipe that does not end", endless, b"FF140000\n")

@@ -18,8 +18,9 @@ command -v valgrind >/dev/null || {
 }
 played=0
 wrong=0
-for name in case-7 default-masked named-n7-sets32 overlong-121 place-31 place-by-board refusal-05-three \
-    refusal-18-and-23 unequal-b4-n7-run2; do
+for name in case-7 default-masked mistake-OddFilled mistake-OddRoundedDown named-n7-sets32 overlong-121 overlong-241 \
+    place-31 place-by-board refusal-05-three refusal-18-and-23 refusal-22-nine refusal-22-one-byte \
+    unequal-b4-n7-run2 wide-dealer; do
     sheet=tests/corpus/$name.sheet
     played=$((played + 1))
     timeout 20 target/bin/bench <"$sheet" >"$folder/expected"

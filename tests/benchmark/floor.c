@@ -4,14 +4,14 @@
 // - there is one tree for all boards, of nodes only, and a list of cells for each sender's frame of a round;
 // - what boards outside F send is the same for all receivers, so it is stored once and copied (lists lie within F,
 //   so nothing of it is masked);
-// - children that are all worth the same need one comparison of eight bytes (least byte first).
+// - children that are all worth the same need one comparison of sixteen bytes (least byte first).
 //
 // `floor largest` does what the program `largest` does: it closes the largest round a hundred times.
 #include <stdint.h>
 #include <string.h>
 #include <unistd.h>
 
-enum { BOARDS = 7, SETS = 32, LONGEST = 65536, WIDEST = 720, NONE = 255 };
+enum { BOARDS = 7, SETS = 32, LONGEST = 65536, WIDEST = 720, NONE = 65535 };
 
 // The plan.
 static int n, span, default_value, dealer, depth, value, faulty, all;
@@ -34,8 +34,8 @@ typedef struct {
 } Report;
 static Report reports[BOARDS + 1][BOARDS];
 
-// The boards; eight bytes more, since children are read eight at a time.
-static uint8_t cells[BOARDS][BOARDS + 1][WIDEST + 8];
+// The boards; eight cells more, since children are read eight at a time.
+static uint16_t cells[BOARDS][BOARDS + 1][WIDEST + 8];
 static int lists[BOARDS];
 
 // The frame lines, in order.
@@ -134,7 +134,7 @@ static void grow(void)
 // The rules
 
 // Children that are worth something else than a value.
-static inline int others(int children, const uint8_t *worth, int than)
+static inline int others(int children, const uint16_t *worth, int than)
 {
     int set = 0;
     for (; children; children &= children - 1)
@@ -142,17 +142,20 @@ static inline int others(int children, const uint8_t *worth, int than)
     return set;
 }
 
-// Whether all children are worth the same; `used` has the bytes of all children but the last.
-static inline int alike(const uint8_t *worth, uint64_t used)
+// Eight cells.
+typedef unsigned __int128 Eight;
+
+// Whether all children are worth the same; `used` has the bits of all children but the last.
+static inline int alike(const uint16_t *worth, Eight used)
 {
-    uint64_t eight;
-    memcpy(&eight, worth, 8);
-    return !((eight ^ eight >> 8) & used);
+    Eight eight;
+    memcpy(&eight, worth, sizeof eight);
+    return !((eight ^ eight >> 16) & used);
 }
 
-static uint64_t but_last(int children) { return ((uint64_t)1 << 8 * (children - 1)) - 1; }
+static Eight but_last(int children) { return ((Eight)1 << 16 * (children - 1)) - 1; }
 
-static int explained(int children, const uint8_t *worth, int list)
+static int explained(int children, const uint16_t *worth, int list)
 {
     for (int i = 0, count = __builtin_popcount(children); i < count; i++)
         if (worth[i] != NONE && tolerated(others(children, worth, worth[i]) | list))
@@ -160,7 +163,7 @@ static int explained(int children, const uint8_t *worth, int list)
     return 0;
 }
 
-static int vote(int children, const uint8_t *worth)
+static int vote(int children, const uint16_t *worth)
 {
     int found = NONE;
     for (int i = 0, count = __builtin_popcount(children); i < count; i++) {
@@ -177,9 +180,9 @@ static int vote(int children, const uint8_t *worth)
 static void detect(int board, int round)
 {
     const Level *level = &levels[round - 1];
-    uint8_t *to = cells[board][round], *worth = to;
+    uint16_t *to = cells[board][round], *worth = to;
     int list = lists[board], width = n - round + 1;
-    uint64_t used = but_last(width);
+    Eight used = but_last(width);
     for (int t = 0; t < level->inner; t++, worth += width) {
         int last = level->last[t];
         if (alike(worth, used) || has(list, last) || explained(all & ~level->set[t], worth, list))
@@ -199,9 +202,9 @@ static void convert(int board)
     int list = lists[board];
     for (int k = rounds - 1; k >= 1; k--) {
         const Level *level = &levels[k];
-        const uint8_t *worth = cells[board][k + 1];
+        const uint16_t *worth = cells[board][k + 1];
         int width = n - k;
-        uint64_t used = but_last(width);
+        Eight used = but_last(width);
         for (int t = 0; t < level->inner; t++, worth += width) {
             int last = level->last[t], children = all & ~level->set[t], to = level->at[t];
             if (alike(worth, used) && *worth != NONE) {
@@ -221,17 +224,21 @@ static void convert(int board)
 // Playing
 
 // What the boards outside F send, which each of them also has of itself; the default for all others.
-static void fill(uint8_t *row, int round, int keepers)
+static void fill(uint16_t *row, int round, int keepers)
 {
-    memset(row, default_value, levels[round].nodes);
+    for (int i = 0; i < levels[round].nodes; i++)
+        row[i] = default_value;
     for (; keepers; keepers &= keepers - 1) {
         int board = __builtin_ctz(keepers);
         const Report *report = &reports[round][board];
-        const uint8_t *from = cells[board][round - 1];
+        const uint16_t *from = cells[board][round - 1];
         for (int i = 0; i < report->count; i++)
             row[report->to[i]] = from[report->from[i]];
     }
 }
+
+// Two bytes as a number, the high one first.
+static int number_at(const uint8_t *at) { return at[0] << 8 | at[1]; }
 
 // A frame of a faulty board. Round 1 has the dealer's value only.
 static void store(const Line *line)
@@ -239,16 +246,18 @@ static void store(const Line *line)
     int round = line->key >> 16 & 255, sender = line->key >> 8 & 255, receiver = line->key & 255;
     const Report *report = &reports[round][sender];
     const uint8_t *from = bytes + line->start;
-    uint8_t *to = cells[receiver][round];
-    if (line->count != report->count || has(lists[receiver], sender))
+    uint16_t *to = cells[receiver][round];
+    if (line->count != 2 * report->count || has(lists[receiver], sender))
         return;
-    for (int i = 0; i < report->count; i++)
-        to[report->to[i]] = from[i] < span ? from[i] : default_value;
+    for (int i = 0; i < report->count; i++, from += 2) {
+        int told = number_at(from);
+        to[report->to[i]] = told < span ? told : default_value;
+    }
 }
 
 static void play(int keepers)
 {
-    static uint8_t row[WIDEST];
+    static uint16_t row[WIDEST];
     const Line *line = lines, *end = lines + line_count;
     reports[1][dealer].count = 1;
     for (int run = 1; run <= runs; run++) {
@@ -258,7 +267,7 @@ static void play(int keepers)
             else
                 fill(row, round, keepers);
             for (int rest = keepers; rest; rest &= rest - 1)
-                memcpy(cells[__builtin_ctz(rest)][round], row, levels[round].nodes);
+                memcpy(cells[__builtin_ctz(rest)][round], row, levels[round].nodes * sizeof *row);
             for (; line < end && line->key >> 16 == (uint32_t)(run << 8 | round); line++)
                 store(line);
             if (round > 1)
@@ -281,23 +290,24 @@ static char *print_byte(char *to, int byte)
     return to;
 }
 
+static char *print_pair(char *to, int pair) { return print_byte(print_byte(to, pair >> 8), pair & 255); }
+
 static int refuse(int number, int line)
 {
     char printed[9], *to = print_byte(printed, 255);
     to = print_byte(to, number);
-    to = print_byte(to, line >> 8);
-    to = print_byte(to, line & 255);
+    to = print_pair(to, line);
     *to = '\n';
     return print(printed, 9);
 }
 
 static int report(void)
 {
-    char printed[63], *to = printed;
+    char printed[77], *to = printed;
     for (int rest = all & ~faulty; rest; rest &= rest - 1) {
         int board = __builtin_ctz(rest);
         to = print_byte(to, board);
-        to = print_byte(to, board == dealer ? value : cells[board][1][0]);
+        to = print_pair(to, board == dealer ? value : cells[board][1][0]);
         to = print_byte(to, lists[board]);
         to = print_byte(to, place_of(lists[board]));
         *to++ = '\n';
@@ -328,12 +338,12 @@ static int decode(const uint8_t **from, uint8_t *to)
 // The number that the head meets, or 0 and the plan.
 static int judge_head(const uint8_t *head, int count)
 {
-    if (count < 8 || count != 8 + head[6])
+    if (count < 11 || count != 11 + head[9])
         return 22;
-    const uint8_t *sets = listed = head + 7;
-    int set_count = head[6], named = 0;
-    n = head[0], span = head[1], default_value = head[2], dealer = head[3], depth = head[4], value = head[5];
-    faulty = head[count - 1];
+    const uint8_t *sets = listed = head + 10;
+    int set_count = head[9], named = 0;
+    n = head[0], span = number_at(head + 1), default_value = number_at(head + 3), dealer = head[5], depth = head[6];
+    value = number_at(head + 7), faulty = head[count - 1];
     if (n == 0 || n > BOARDS)
         return 1;
     all = (1 << n) - 1;
@@ -433,7 +443,7 @@ static int largest(void)
     uint8_t sets[SETS];
     memset(sets, 1, SETS);
     sets[SETS - 1] = 63;
-    n = 7, span = 255, all = 127;
+    n = 7, span = 65535, all = 127;
     tolerate(sets, SETS);
     schedule(sets, SETS);
     grow();
@@ -441,14 +451,14 @@ static int largest(void)
     for (int time = 0; time < TIMES; time++) {
         for (int k = 1; k < rounds; k++)
             for (int i = 0; i < levels[k].nodes; i++)
-                cells[OWN][k][i] = place[k][i] % 251;
+                cells[OWN][k][i] = 65534 - place[k][i];
         lists[OWN] = 0;
         fill(cells[OWN][rounds], rounds, 1 << OWN);
         detect(OWN, rounds);
         convert(OWN);
     }
-    char printed[2] = {cells[OWN][1][0], lists[OWN]};
-    return print(printed, 2);
+    char printed[3] = {cells[OWN][1][0] >> 8, cells[OWN][1][0], lists[OWN]};
+    return print(printed, 3);
 }
 
 int main(int count, char **words)

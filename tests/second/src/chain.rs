@@ -5,6 +5,7 @@
 //! lie in a set without it. Faulty boards elsewhere tell what the pillar has.
 //! Values are told as for the default 0; with the default 1 both are swapped.
 
+use crate::make::common;
 use crate::plan::{all, set_of, Plan, Set};
 use crate::prng::Prng;
 use crate::search::{sheet as sheet_of, Lies};
@@ -62,14 +63,31 @@ impl Cast {
     }
 }
 
-/// A sheet of this kind, at times spoilt a little.
+/// A sheet of this kind, at times spoilt a little; of two bytes at times with other values than 0 and 1.
 pub fn sheet(width: Width, rng: &mut Prng) -> Sheet {
-    match rng.below(5) {
+    let mut sheet = match rng.below(5) {
         0 | 1 => deep(width, rng),
         2 => single(width, 6, 4, 4, rng),
         3 => single(width, 7, 4, 4 + rng.below(2), rng),
         _ => single(width, 7, 5, 5, rng),
+    };
+    if width == Width::Two && rng.chance(1, 2) {
+        let span = rng.pick(&[255, 256, 257, 512, Value::MAX]);
+        let [zero, one] = common(width, span, rng);
+        if zero != one {
+            rename(&mut sheet, span, zero, one);
+        }
     }
+    sheet
+}
+
+/// Puts two values below a span for 0 and 1 everywhere.
+pub fn rename(sheet: &mut Sheet, span: Value, zero: Value, one: Value) {
+    let named = |value: Value| if value == 0 { zero } else { one };
+    sheet.change_values(named);
+    sheet.value = named(sheet.value);
+    sheet.plan.default = named(sheet.plan.default);
+    sheet.plan.span = span;
 }
 
 /// Unequal after run 1: the sides' values alternate down the chain.

@@ -107,6 +107,7 @@ impl Keeper {
             Some(Mistake::OverlongCut) => count >= wanted,
             Some(Mistake::ShortFilled) => count <= wanted,
             Some(Mistake::LengthInAByte) => count * bytes % 256 == wanted * bytes,
+            Some(Mistake::CountInAByte) => count % 256 == wanted,
             _ => count == wanted,
         }
     }
@@ -246,7 +247,7 @@ impl Keeper {
         if !tree.internal(label) {
             return Some(self.value(tree, label));
         }
-        let values = child_values(tree, label, resolved);
+        let values = self.compared(child_values(tree, label, resolved));
         let supported = |v: &Value| {
             let same = values.iter().filter(|(_, value)| *value == Some(*v));
             !tree.plan.tolerated(set_of(same.map(|(q, _)| *q)))
@@ -287,10 +288,24 @@ impl Keeper {
 
     /// Whether some value leaves a tolerated set of children with another, joined with the list.
     fn explained(&self, tree: &Tree, values: &Children, list: Set) -> bool {
-        self.tried(tree, values).any(|v| {
+        let values = self.compared(values.clone());
+        self.tried(tree, &values).any(|v| {
             let other = values.iter().filter(|(_, value)| *value != Some(v));
             tree.plan.tolerated(set_of(other.map(|(q, _)| *q)) | list)
         })
+    }
+
+    /// The values of children as they are compared: as they are, but for a mistake that takes the first with the same low
+    /// byte for each.
+    fn compared(&self, mut values: Children) -> Children {
+        if self.makes(Mistake::LowByteCompared) {
+            let low = |value: Option<Value>| value.map(|v| v & 0xFF);
+            for place in 0..values.len() {
+                let first = values.iter().find(|v| low(v.1) == low(values[place].1));
+                values[place].1 = first.and_then(|v| v.1);
+            }
+        }
+        values
     }
 
     /// The values that a rule tries, rising: all below m. Where these are many, those that children have and the least

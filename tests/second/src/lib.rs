@@ -53,6 +53,17 @@ pub fn play_at(width: Width, sheet: &[u8], mistake: Option<Mistake>) -> Result<O
     sheet::read_at(width, sheet, mistake).map(|s| session::play_sheet(&s, mistake))
 }
 
+/// The same with so much output and so many cells.
+pub fn play_lent(
+    width: Width,
+    sheet: &[u8],
+    output: usize,
+    cells: usize,
+) -> Result<Outcome, Refusal> {
+    sheet::judge_lent(width, sheet, output, cells)?;
+    play_at(width, sheet, None)
+}
+
 /// The printed form of an outcome or a refusal.
 pub fn print(result: &Result<Outcome, Refusal>) -> Vec<u8> {
     let text = match result {

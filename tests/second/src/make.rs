@@ -41,7 +41,7 @@ pub fn good(width: Width, rng: &mut Prng) -> Sheet {
 
 /// A sheet with frames of the faulty boards for this plan.
 pub fn lied_to(width: Width, plan: Plan, faulty: Set, rng: &mut Prng) -> Sheet {
-    let value = rng.below(plan.span as usize) as Value;
+    let value = likely(width, plan.span, rng);
     let mut liar = Liar::new(width, &plan, faulty, rng);
     play(width, &plan, value, faulty, &mut liar, None);
     let frames = liar.frames;
@@ -62,6 +62,20 @@ pub fn plan(width: Width, rng: &mut Prng) -> Plan {
         1, 2, 3, 3, 4, 4, 4, 5, 5, 5, 5, 6, 6, 6, 6, 6, 6, 7, 7, 7, 7,
     ]);
     let sets = sets(n, rng);
+    plan_of(width, n, sets, rng)
+}
+
+/// An accepted plan with the longest frames, of 120 values: seven boards, and a set of six that holds the dealer.
+pub fn deepest_plan(width: Width, rng: &mut Prng) -> Plan {
+    let outside = rng.below(7) as u8;
+    let mut plan = plan_of(width, 7, vec![all(7) & !set_of([outside])], rng);
+    plan.dealer = (outside + 1 + rng.below(6) as u8) % 7;
+    plan.depth = rng.pick(&[0, 7]);
+    plan
+}
+
+/// An accepted plan with these sets.
+fn plan_of(width: Width, n: u8, sets: Vec<Set>, rng: &mut Prng) -> Plan {
     let largest = width.blank();
     let span = match rng.below(8) {
         0 => largest,
@@ -74,7 +88,7 @@ pub fn plan(width: Width, rng: &mut Prng) -> Plan {
     let default = match rng.below(6) {
         0..=2 => 0,
         3 => span - 1,
-        _ => rng.below(span as usize) as Value,
+        _ => likely(width, span, rng),
     };
     let dealer = rng.below(n as usize) as u8;
     let depth = rng.pick(&[0, 4, 4, 4, 5, 6, 7]);
@@ -211,7 +225,7 @@ struct Liar<'a> {
 
 impl<'a> Liar<'a> {
     fn new(width: Width, plan: &Plan, faulty: Set, rng: &'a mut Prng) -> Liar<'a> {
-        let common = [0, 1].map(|_| likely(width, plan.span, rng));
+        let common = common(width, plan.span, rng);
         Liar {
             width,
             plan: plan.clone(),
@@ -257,7 +271,7 @@ impl<'a> Liar<'a> {
         keepers[&witness].cells[label]
     }
 
-    /// Makes a frame too short or too long, by any number of bytes.
+    /// Makes a frame too short or too long, by any number of bytes, at times by 256 bytes or by 256 values.
     fn bend(&mut self, frame: &mut Vec<u8>) {
         match self.rng.below(16) {
             0..=7 => frame.truncate(self.rng.below(frame.len())),
@@ -266,7 +280,11 @@ impl<'a> Liar<'a> {
                     frame.push(self.rng.byte());
                 }
             }
-            _ => frame.resize(frame.len() + 256, 0),
+            _ => {
+                let values = self.width == Width::Two && self.rng.chance(1, 2);
+                let more = if values { 512 } else { 256 };
+                frame.resize(frame.len() + more, 0);
+            }
         }
     }
 }
@@ -286,13 +304,23 @@ fn not_below(width: Width, span: Value, rng: &mut Prng) -> Value {
     span + rng.below((largest - span) as usize + 1) as Value
 }
 
-/// A value for lies; of two bytes at times m - 1, or one that fills its low byte or comes after.
+/// A value; of two bytes at times m - 1, or one that fills its low byte or comes after.
 fn likely(width: Width, span: Value, rng: &mut Prng) -> Value {
     let near = width == Width::Two && rng.chance(1, 3);
     if near {
         return rng.pick(&[span - 1, 255, 256]).min(span - 1);
     }
     rng.below(span as usize) as Value
+}
+
+/// Two values that most lies use; of two bytes at times they differ in one byte alone.
+pub fn common(width: Width, span: Value, rng: &mut Prng) -> [Value; 2] {
+    let [first, second] = [0, 1].map(|_| likely(width, span, rng));
+    if width == Width::Two && rng.chance(1, 2) {
+        let other = first ^ rng.pick(&[0x0001, 0x0080, 0x0100, 0x8000]);
+        return [first, if other < span { other } else { second }];
+    }
+    [first, second]
 }
 
 /// Any number; of two bytes at times one about m, FFFF, or one that a single byte has.
@@ -341,7 +369,7 @@ fn bad_head(width: Width, rng: &mut Prng) -> Vec<u8> {
 
 fn hurt_head(width: Width, head: &mut Vec<u8>, plan: &Plan, rng: &mut Prng) {
     let (at, last) = (width.head(), head.len() - 1);
-    match rng.below(17) {
+    match rng.below(18) {
         0 => head[0] = rng.pick(&[0, 8, 9, 255]),
         1 if last >= at.default => width.put_number(head, at.span, rng.pick(&[0, 1])),
         2 if last >= at.dealer => raise_default(width, head, rng),
@@ -372,6 +400,7 @@ fn hurt_head(width: Width, head: &mut Vec<u8>, plan: &Plan, rng: &mut Prng) {
             raise_default(width, head, rng);
             head[at.depth] = rng.pick(&BAD_DEPTHS);
         }
+        16 if last > 0 => drop(head.remove(rng.below(head.len()))),
         _ => head.push(rng.byte()),
     }
 }

@@ -20,6 +20,9 @@ const ANSWERS: [(&str, &[u8]); 8] = [
     ("deal", &[0, 1, 3, 4, 5, 6, 7, 26, 8, 18]),
 ];
 
+/// A board wrote the longest frame that there is.
+const LONGEST: &str = "frame of 120 values written";
+
 /// Only values of two bytes can give a frame of an odd length.
 const ODD: &str = "frame of an odd length";
 
@@ -56,6 +59,9 @@ impl Met {
         match act {
             Act::Receive(sender, frame) if said.number == 0 => {
                 self.frame(width, *sender, frame, before)
+            }
+            Act::Send if said.beside == [120 * width.bytes() as u8] => {
+                self.count(LONGEST.into());
             }
             _ => (),
         }
@@ -126,6 +132,7 @@ impl Met {
         }
         wanted.push("frame from a listed board".into());
         wanted.push("frame with a value of m or more".into());
+        wanted.push(LONGEST.into());
         if width == Width::Two {
             wanted.push(ODD.into());
         }

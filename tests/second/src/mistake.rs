@@ -118,6 +118,14 @@ pub enum Mistake {
     MarkFF,
     /// FFFF is below a span of 65,535.
     MarkBelowSpan,
+    /// A frame of an odd length gets 00 for the byte that it lacks.
+    OddFilled,
+    /// The values of a frame are counted in one byte: 256 values more are not noticed.
+    CountInAByte,
+    /// Values with equal low bytes are one value to both rules and to resolving.
+    LowByteCompared,
+    /// A board writes 121 bytes of a frame at most, the room for values of one byte.
+    FrameOf121,
     /// A rule that would list a board again writes its entry anew.
     EntryOverwritten,
     /// An entry has the run and the round that come next.
@@ -144,7 +152,7 @@ pub enum Mistake {
 
 impl Mistake {
     /// All mistakes, at both widths.
-    pub const ALL: [Mistake; 68] = [
+    pub const ALL: [Mistake; 72] = [
         Mistake::CachedValue,
         Mistake::CachedVerdict,
         Mistake::GWithoutList,
@@ -202,6 +210,10 @@ impl Mistake {
         Mistake::HighByteLost,
         Mistake::MarkFF,
         Mistake::MarkBelowSpan,
+        Mistake::OddFilled,
+        Mistake::CountInAByte,
+        Mistake::LowByteCompared,
+        Mistake::FrameOf121,
         Mistake::EntryOverwritten,
         Mistake::EntryOfNextRound,
         Mistake::EntryInRun1,
@@ -222,16 +234,17 @@ impl Mistake {
     }
 
     /// Mistakes about values of two bytes.
-    fn needs_two(self) -> bool {
-        (Mistake::LowByteFirst..=Mistake::MarkBelowSpan).contains(&self)
+    pub fn needs_two(self) -> bool {
+        (Mistake::LowByteFirst..=Mistake::FrameOf121).contains(&self)
     }
 
     /// Mistakes that no sheet can show, and that calls tell: with `RawStored` cells differ, what is printed does not;
-    /// `CellIsZero` is about cells of m or more, which no sheet leads to; entries are not printed, and no sheet leads to
-    /// number 12.
+    /// `CellIsZero` is about cells of m or more, which no sheet leads to; frames as long as `FrameOf121` cuts are due only
+    /// from a board that is in no set, and only where what it says in earlier rounds settles all; entries are not printed,
+    /// and no sheet leads to number 12.
     pub fn hidden(self) -> bool {
-        matches!(self, Mistake::RawStored | Mistake::CellIsZero)
-            || self >= Mistake::EntryOverwritten
+        use Mistake::*;
+        matches!(self, RawStored | CellIsZero | FrameOf121) || self >= EntryOverwritten
     }
 
     /// The mistakes that a sheet tells from the right engine, accepted or refused.

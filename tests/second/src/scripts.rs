@@ -10,7 +10,7 @@ use crate::mistake::Mistake;
 use crate::plan::{all, has, Label, Plan, Tree};
 use crate::prng::Prng;
 use crate::record::Fields;
-use crate::script::{out, Act, Step, CELLS};
+use crate::script::{out, Act, Step, BLOCK, CELLS, START};
 use crate::session::{play, Adversary, Keepers};
 use crate::sheet::{Sheet, Slot};
 use crate::width::{Value, Width, CURRENT};
@@ -199,11 +199,14 @@ impl Maker {
     /// One board's calls in a session with faulty boards, and others between them that change nothing.
     fn fair(&mut self) {
         self.kind = "fair";
-        let sheet = if self.rng.chance(1, 2) {
+        let mut sheet = if self.rng.chance(1, 2) {
             chain::sheet(self.width, &mut self.rng)
         } else {
             make::good(self.width, &mut self.rng)
         };
+        // A block takes more than any frame that is due, and less than the longest misfits.
+        let frames = sheet.frames.values_mut();
+        frames.for_each(|frame| frame.truncate(BLOCK - START));
         let mut recorder = Recorder {
             sheet: &sheet,
             stored: BTreeMap::new(),
@@ -346,7 +349,10 @@ impl Maker {
 
     fn foreign(&mut self) {
         self.kind = "foreign";
-        let plan = make::plan(self.width, &mut self.rng);
+        let plan = match self.rng.below(12) {
+            0 => make::deepest_plan(self.width, &mut self.rng),
+            _ => make::plan(self.width, &mut self.rng),
+        };
         self.start(&plan);
         let boards: Vec<u8> = (0..plan.n).filter(|b| *b != plan.dealer).collect();
         if boards.is_empty() {
@@ -406,7 +412,8 @@ impl Maker {
     /// Cells of few values, of one with others here and there, or of any numbers. At times the nodes below each node of
     /// some level have one value, so that rule G finds nothing and rule C does.
     fn strange_cells(&mut self, plan: &Plan) -> Vec<Value> {
-        let common = [0; 3].map(|_: u8| self.rng.below(plan.span as usize) as Value);
+        let [first, second] = make::common(self.width, plan.span, &mut self.rng);
+        let common = [first, second, self.rng.below(plan.span as usize) as Value];
         let others = self.rng.pick(&[1, 4, 16, 64]);
         let any = self.rng.pick(&[0, 0, 1, 64]);
         let above = self.rng.pick(&[9, 9, 2, 3, 4, 5]);
@@ -457,7 +464,7 @@ impl Maker {
             1 => length + 256,
             _ => length,
         };
-        let common = [0, 1].map(|_| self.rng.below(span as usize) as Value);
+        let common = make::common(width, span, &mut self.rng);
         let any = self.rng.pick(&[0, 1, 16]);
         let mut value = |_| {
             if self.rng.chance(any, 16) {

@@ -46,8 +46,8 @@ pub struct Outcome {
     pub told: BTreeSet<Value>,
     /// Those below m in frames of the due length, for each run.
     pub heard: Vec<BTreeSet<Value>>,
-    /// Whether one of their frames has a part of a value at its end.
-    pub odd: bool,
+    /// By how many bytes their frames are longer than is due; below 0 if shorter.
+    pub misfits: BTreeSet<isize>,
 }
 
 impl Outcome {
@@ -116,13 +116,13 @@ pub fn play(
     let mut keepers: Keepers = keeping.map(keeper).collect();
     let dealt = width.encode_with(&[value], mistake);
     let (mut roots, mut lists, mut told) = (vec![], vec![], BTreeSet::new());
-    let (mut heard, mut odd) = (vec![], false);
+    let (mut heard, mut misfits) = (vec![], BTreeSet::new());
     for run in 1..=plan.runs() {
         let mut heard_now = BTreeSet::new();
         for round in Plan::first_round(run)..=plan.rounds() {
             for frame in exchange(&tree, &dealt, faulty, run, round, &mut keepers, adversary) {
                 heard_now.extend(frame.heard(width, plan.span));
-                odd |= frame.bytes.len() % width.bytes() != 0;
+                misfits.extend(frame.misfit(width));
                 told.extend(width.decode(&frame.bytes));
             }
         }
@@ -166,7 +166,7 @@ pub fn play(
         lists,
         told,
         heard,
-        odd,
+        misfits,
     }
 }
 
@@ -195,6 +195,12 @@ struct Told {
 }
 
 impl Told {
+    /// By how many bytes it is longer than is due, if it has another length.
+    fn misfit(&self, width: Width) -> Option<isize> {
+        let by = self.bytes.len() as isize - (self.due * width.bytes()) as isize;
+        Some(by).filter(|by| *by != 0)
+    }
+
     /// The values below m, if it has the due length.
     fn heard(&self, width: Width, span: Value) -> Vec<Value> {
         let mut values = width.decode(&self.bytes);

@@ -7,6 +7,9 @@ use std::collections::BTreeMap;
 
 pub const LONGEST: usize = 65_536;
 
+/// The cells that playing needs: those of seven boards.
+pub const CELLS: usize = 7 * 1957;
+
 /// When and between whom a frame goes.
 #[derive(Clone, Copy, Debug, PartialEq, Eq, PartialOrd, Ord)]
 pub struct Slot {
@@ -42,13 +45,19 @@ pub fn read(text: &[u8]) -> Result<Sheet, Refusal> {
     read_at(CURRENT, text, None)
 }
 
+/// What is judged before anything is read: the length, then the lent output and cells.
+pub fn judge_lent(width: Width, text: &[u8], output: usize, cells: usize) -> Result<(), Refusal> {
+    let judged = [
+        (20, text.len() > LONGEST),
+        (17, output < width.output_needed()),
+        (11, cells < CELLS),
+    ];
+    let first = judged.into_iter().find(|(_, met)| *met);
+    first.map_or(Ok(()), |(number, _)| Err(Refusal { number, line: 0 }))
+}
+
 pub fn read_at(width: Width, text: &[u8], mistake: Option<Mistake>) -> Result<Sheet, Refusal> {
-    if text.len() > LONGEST {
-        return Err(Refusal {
-            number: 20,
-            line: 0,
-        });
-    }
+    judge_lent(width, text, width.output_needed(), CELLS)?;
     let mut lines = lines(text).into_iter().enumerate();
     let at = |line: usize| {
         move |number: u8| Refusal {

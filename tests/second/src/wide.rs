@@ -6,19 +6,57 @@ use crate::width::{Value, Width};
 /// A kind of accepted sheets, by name.
 pub type Kind = (&'static str, fn(&Outcome) -> bool);
 
-const KINDS: [Kind; 7] = [
-    ("span above 255", |o| o.plan.span > 255),
+const KINDS: [Kind; 22] = [
+    ("span 2", |o| o.plan.span == 2),
+    ("span 255", |o| o.plan.span == 255),
+    ("span 256", |o| o.plan.span == 256),
+    ("span 257", |o| o.plan.span == 257),
+    ("span 65,535", |o| o.plan.span == Value::MAX),
     ("default above 255", |o| o.plan.default > 255),
+    ("default above 255, decided though nobody told it", |o| {
+        o.plan.default > 255 && o.default_shows()
+    }),
     ("decision above 255", |o| decides(o, |value| value > 255)),
+    ("decision above 255 of a healthy dealer", |o| {
+        o.healthy_dealer() && decides(o, |value| value > 255)
+    }),
     ("decision of 255, span above it", |o| {
         o.plan.span > 255 && decides(o, |value| value == 255)
     }),
-    ("frame of an odd length", |o| o.odd),
+    ("unequal roots above 255", |o| {
+        let above = |run: usize| o.roots[run - 1].iter().all(|root| *root > 255);
+        let mut runs = 1..=o.roots.len();
+        runs.any(|run| above(run) && o.unequal_after(run))
+    }),
+    ("value of m - 1, m above 256", |o| {
+        o.plan.span > 256 && o.told.contains(&(o.plan.span - 1))
+    }),
     ("value of m, above 255", |o| {
         o.plan.span > 255 && o.told.contains(&o.plan.span)
     }),
+    ("value of m + 1, m above 255", |o| {
+        let after = o.plan.span.checked_add(1);
+        o.plan.span > 255 && after.is_some_and(|value| o.told.contains(&value))
+    }),
+    ("value of FFFF, span below it", |o| {
+        o.plan.span < Value::MAX && o.told.contains(&Value::MAX)
+    }),
     ("value of FFFF, span 65,535", |o| {
         o.plan.span == Value::MAX && o.told.contains(&Value::MAX)
+    }),
+    ("values that differ in the high byte alone", |o| {
+        tells_two(o, |a, b| a & 0xFF == b & 0xFF)
+    }),
+    ("values above 255 that differ in the low byte alone", |o| {
+        tells_two(o, |a, b| a > 255 && a >> 8 == b >> 8)
+    }),
+    ("frame with a byte too few", |o| o.misfits.contains(&-1)),
+    ("frame with a byte too many", |o| o.misfits.contains(&1)),
+    ("frame with 256 bytes too many", |o| {
+        o.misfits.contains(&256)
+    }),
+    ("frame with 256 values too many", |o| {
+        o.misfits.contains(&512)
     }),
 ];
 
@@ -32,4 +70,11 @@ pub fn kinds(width: Width) -> &'static [Kind] {
 
 fn decides(outcome: &Outcome, shows: impl Fn(Value) -> bool) -> bool {
     outcome.lines.iter().any(|line| shows(line.decision))
+}
+
+/// Whether faulty boards tell two different values below m that are so.
+fn tells_two(outcome: &Outcome, so: impl Fn(Value, Value) -> bool) -> bool {
+    let told: Vec<&Value> = outcome.told.range(..outcome.plan.span).collect();
+    let rest = |place: usize| told[place + 1..].iter();
+    (0..told.len()).any(|place| rest(place).any(|other| so(*told[place], **other)))
 }

@@ -1,6 +1,6 @@
 //! Sheets, frames, cells and printed lines of one-byte values, written in two bytes.
 
-use crate::width::{Value, Width, CURRENT};
+use crate::width::{Value, Width};
 
 /// A sheet: 00 before the span, the default and the dealer's value of line 1, and before each value of later lines.
 /// Lines are taken two characters at a time, whatever they are; a single last one stays as it is.
@@ -49,21 +49,5 @@ pub fn cell(cell: Value) -> Value {
         Width::Two.blank()
     } else {
         cell
-    }
-}
-
-/// A sheet of one-byte values at the width that the programs use.
-pub fn current_sheet(text: &[u8]) -> Vec<u8> {
-    match CURRENT {
-        Width::One => text.to_vec(),
-        Width::Two => sheet(text),
-    }
-}
-
-/// What is printed for it.
-pub fn current_printed(text: &[u8]) -> Vec<u8> {
-    match CURRENT {
-        Width::One => text.to_vec(),
-        Width::Two => printed(text),
     }
 }

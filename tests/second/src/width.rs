@@ -12,7 +12,7 @@ pub enum Width {
 }
 
 /// The width that the programs use.
-pub const CURRENT: Width = Width::One;
+pub const CURRENT: Width = Width::Two;
 
 /// Where the numbers of a head start, in bytes. n stands at 0, F after the sets.
 #[derive(Clone, Copy, Debug, PartialEq, Eq)]
@@ -86,6 +86,11 @@ impl Width {
     pub fn encode_with(self, values: &[Value], mistake: Option<Mistake>) -> Vec<u8> {
         match mistake {
             Some(Mistake::LowByteFirst) => self.encode(&swapped(values)),
+            Some(Mistake::FrameOf121) => {
+                let mut frame = self.encode(values);
+                frame.truncate(121);
+                frame
+            }
             _ => self.encode(values),
         }
     }
@@ -97,6 +102,11 @@ impl Width {
             Some(Mistake::OddRoundedDown) => {
                 let whole = frame.len() / self.bytes() * self.bytes();
                 self.decode(&frame[..whole])
+            }
+            Some(Mistake::OddFilled) => {
+                let mut whole = frame.to_vec();
+                whole.resize(frame.len().next_multiple_of(self.bytes()), 0);
+                self.decode(&whole)
             }
             _ => self.decode(frame),
         }

@@ -6,16 +6,16 @@ use second::met::Met;
 use second::record::{Ground, Record};
 use second::script::Act;
 use second::scripts::Script;
-use second::{make, Mistake, CURRENT};
+use second::{make, Mistake, Width, CURRENT};
 
 /// The bytes that are told of an answer and a plan, and then of entries.
-fn parts() -> [usize; 2] {
-    [5 + 36 + 2 * CURRENT.bytes(), 28]
+fn parts(width: Width) -> [usize; 2] {
+    [5 + 36 + 2 * width.bytes(), 28]
 }
 
 /// The entries of a record as it is told: kind, run, round, level of each board.
-fn entries(told: &[u8]) -> Vec<&[u8]> {
-    let [before, length] = parts();
+fn entries(width: Width, told: &[u8]) -> Vec<&[u8]> {
+    let [before, length] = parts(width);
     told[before..][..length].chunks(4).collect()
 }
 
@@ -25,10 +25,10 @@ fn example_lists_the_dealer() {
     let script = Script::example();
     let told = |place: usize| &script.steps[place].1;
     assert_eq!(script.steps.len(), 10);
-    assert_eq!(entries(told(7)), [[0; 4]; 7]);
+    assert_eq!(entries(CURRENT, told(7)), [[0; 4]; 7]);
     let mut listed = [[0; 4]; 7];
     listed[0] = [1, 1, 2, 1];
-    assert_eq!(entries(told(8)), listed);
+    assert_eq!(entries(CURRENT, told(8)), listed);
     let decision = CURRENT.encode(&[15]);
     assert_eq!(told(9)[..2], [0, decision.len() as u8]);
     assert_eq!(told(9)[2..][..decision.len()], decision);
@@ -90,22 +90,23 @@ fn grounds_of_12() {
 /// written in round R; an entry that stood stays, whatever call is made.
 #[test]
 fn entries_are_written_once() {
-    for place in 0..400 {
-        let script = Script::new(make::own_seed(2, place));
+    for (place, width) in (0..400).flat_map(|place| Width::BOTH.map(|width| (place, width))) {
+        let script = Script::at(width, make::own_seed(2, place));
         for pair in script.steps.windows(2) {
             let ((_, before), (step, after)) = (&pair[0], &pair[1]);
             let call = (1..=8).contains(&step.act.kind()) && !matches!(step.act, Act::Begin(_));
             if call {
-                let boards = entries(before).into_iter().zip(entries(after));
-                boards.for_each(|(was, is)| written_once(before, was, is));
+                let [was, is] = [before, after].map(|told| entries(width, told));
+                let boards = was.into_iter().zip(is);
+                let record = &before[parts(width).iter().sum()..];
+                boards.for_each(|(was, is)| written_once(record, was, is));
             }
         }
     }
 }
 
-fn written_once(before: &[u8], was: &[u8], is: &[u8]) {
+fn written_once(record: &[u8], was: &[u8], is: &[u8]) {
     if was != is {
-        let record = &before[parts().iter().sum()..];
         let [kind, run, round, level] = *is else {
             panic!("four bytes");
         };
@@ -116,22 +117,25 @@ fn written_once(before: &[u8], was: &[u8], is: &[u8]) {
     }
 }
 
-/// Some scripts meet nearly all that is asked for, and tell every mistake that no sheet can show.
+/// Some scripts meet nearly all that is asked for, fit their blocks, and tell every mistake that no sheet can show.
 #[test]
 fn scripts_tell_hidden_mistakes() {
-    let mut met = Met::default();
-    let mut untold = Mistake::at(CURRENT);
-    untold.retain(|mistake| mistake.hidden());
-    assert_eq!(untold.len(), 13);
-    for place in 0..600 {
-        let script = Script::new(make::own_seed(3, place));
-        untold.retain(|mistake| !script.tells(*mistake));
-        met.add(&script.met);
+    for (width, count) in [(Width::One, 13), (Width::Two, 14)] {
+        let mut met = Met::default();
+        let mut untold = Mistake::at(width);
+        untold.retain(|mistake| mistake.hidden());
+        assert_eq!(untold.len(), count);
+        for place in 0..600 {
+            let script = Script::at(width, make::own_seed(3, place));
+            untold.retain(|mistake| !script.tells(*mistake));
+            met.add(&script.met);
+            assert_eq!(script.blocks().len(), 512 * script.steps.len());
+        }
+        assert_eq!(untold, []);
+        assert_eq!(met.impossible(), [""; 0]);
+        let missing = met.missing(width);
+        assert!(missing.len() < 12, "{missing:?}");
     }
-    assert_eq!(untold, []);
-    assert_eq!(met.impossible(), [""; 0]);
-    let missing = met.missing(CURRENT);
-    assert!(missing.len() < 12, "{missing:?}");
 }
 
 /// A missing count and an answer that a call cannot give are found.

@@ -1,8 +1,8 @@
-//! Cases 1 to 10 of the paper, as sheets where they are sheets. Sheets stand here in one-byte values.
+//! Cases 1 to 10 of the paper, as sheets where they are sheets. Sheets stand here in one-byte values; each is played so,
+//! and widened.
 
-use second::bench;
 use second::plan::{admit, first_cover, Plan, Tree};
-use second::widen::{current_printed, current_sheet};
+use second::{bench, play_at, print, widen, Width};
 
 fn plan(n: u8, sets: &[u8], dealer: u8, depth: u8) -> Plan {
     Plan {
@@ -15,15 +15,18 @@ fn plan(n: u8, sets: &[u8], dealer: u8, depth: u8) -> Plan {
     }
 }
 
+/// At one byte, and widened at two.
 fn prints(sheet: &str, printed: &str) {
-    let sheet = current_sheet(sheet.as_bytes());
-    prints_as_written(&sheet, &current_printed(printed.as_bytes()));
+    let (sheet, printed) = (sheet.as_bytes(), printed.as_bytes());
+    let played = |width, sheet: &[u8]| print(&play_at(width, sheet, None));
+    same(&played(Width::One, sheet), printed, sheet);
+    let wider = widen::sheet(sheet);
+    same(&played(Width::Two, &wider), &widen::printed(printed), sheet);
 }
 
-/// The same for a sheet at the width that the programs use.
-fn prints_as_written(sheet: &[u8], printed: &[u8]) {
+fn same(met: &[u8], expected: &[u8], sheet: &[u8]) {
     let text = |bytes: &[u8]| String::from_utf8_lossy(bytes).into_owned();
-    assert_eq!(text(&bench(sheet)), text(printed), "{}", text(sheet));
+    assert_eq!(text(met), text(expected), "{}", text(sheet));
 }
 
 #[test]
@@ -187,7 +190,8 @@ fn kept_cases() {
         let path = entry.unwrap().path();
         if path.extension().is_some_and(|e| e == "sheet") {
             let text = |extension| std::fs::read(path.with_extension(extension));
-            prints_as_written(&text("sheet").unwrap(), &text("out").unwrap());
+            let sheet = text("sheet").unwrap();
+            same(&bench(&sheet), &text("out").unwrap(), &sheet);
         }
     }
 }
@@ -254,6 +258,9 @@ fn refusals_and_lines() {
     prints("0410000005040102040801\n", "FF160001\n");
     prints("041000000010040102040810\n", "FF120001\n");
     prints("041000000005040102040803\n", "FF170001\n");
-    prints_as_written(&[b'0'; 65_537], b"FF140000\n");
-    prints_as_written(&[b'0'; 65_536], b"FF150001\n");
+    for width in Width::BOTH {
+        let printed = |length| print(&play_at(width, &vec![b'0'; length], None));
+        assert_eq!(printed(65_537), b"FF140000\n");
+        assert_eq!(printed(65_536), b"FF150001\n");
+    }
 }

@@ -113,7 +113,7 @@ fn corpus_meets_all_but_the_longest() {
         let some = tally(&|_, result| !result.as_ref().is_ok_and(shows));
         assert!(!some.full(), "{kind}");
     }
-    let no_sets = widen::current_sheet(b"0410000000050000\n");
+    let no_sets = widen::sheet(b"0410000000050000\n");
     let mut changed = play(&no_sets, None);
     changed.as_mut().unwrap().roots[0][0] = 6;
     let mut some = tally(&|_, _| true);
@@ -283,7 +283,7 @@ fn shrinking_ends_with_no_sets() {
     let kept = corpus::load();
     let (_, text) = kept.iter().find(|(name, _)| name == "case-7").unwrap();
     let small = shrink(sheet::read(text).unwrap(), &|_| true);
-    assert_eq!(small.write(), widen::current_sheet(b"0402000000000000\n"));
+    assert_eq!(small.write(), widen::sheet(b"0402000000000000\n"));
 }
 
 /// Roots that differ in a full tree, or with too few faulty boards, are counted as impossible.

@@ -4,12 +4,13 @@ use second::board::State;
 use second::plan::has;
 use second::script::{Act, Step};
 use second::scripts::Script;
-use second::sheet::{read_at, LONGEST};
+use second::sheet::{read_at, CELLS, LONGEST};
 use second::width::Head;
 use second::{
-    make, play_at, print, session, wide, widen, Mistake, Outcome, Refusal, Sheet, Value, Width,
+    chain, corpus, make, play_at, play_lent, print, session, wide, widen, Mistake, Outcome,
+    Refusal, Sheet, Value, Width,
 };
-use std::collections::BTreeSet;
+use std::collections::{BTreeMap, BTreeSet};
 use Width::{One, Two};
 
 fn printed(width: Width, sheet: &str, mistake: Option<Mistake>) -> String {
@@ -172,7 +173,13 @@ fn plays_widened(text: &[u8], name: &str) -> Option<u8> {
             assert_eq!(cells, bench_cells(&two), "{name}");
             let sheet = |width, text: &[u8]| read_at(width, text, None).unwrap();
             same_values(&sheet(One, text), &sheet(Two, &wider), name);
-            assert_eq!(Outcome { width: Two, ..one }, two, "{name}");
+            let doubled = one.misfits.iter().map(|by| 2 * by).collect();
+            let expected = Outcome {
+                width: Two,
+                misfits: doubled,
+                ..one
+            };
+            assert_eq!(expected, two, "{name}");
             None
         }
         (one, two) => {
@@ -187,7 +194,7 @@ fn plays_widened(text: &[u8], name: &str) -> Option<u8> {
 fn bench_cells(outcome: &Outcome) -> Vec<Value> {
     let plan = &outcome.plan;
     let count = second::board::cell_count(plan.n);
-    let mut cells = vec![7; 13_699];
+    let mut cells = vec![7; CELLS];
     for line in outcome.lines.iter().filter(|l| l.board != plan.dealer) {
         let part = &mut cells[line.board as usize * count..][..count];
         part.fill(outcome.width.blank());
@@ -220,6 +227,109 @@ fn made_sheets_are_widened() {
     assert!(too_long > 0);
     let met = [1, 3, 4, 5, 6, 7, 8, 18, 21, 22, 23, 24, 26];
     assert_eq!(Vec::from_iter(numbers), met);
+}
+
+/// The sheet of one-byte values of which this is the widened form, if there is one.
+fn narrowed(text: &[u8]) -> Option<Vec<u8>> {
+    let head = Two.head();
+    let mut narrow = vec![];
+    for (number, line) in text.split(|c| *c == b'\n').enumerate() {
+        if number > 0 {
+            narrow.push(b'\n');
+        }
+        let high = |place: usize| match number {
+            0 => [head.span, head.default, head.value].contains(&place),
+            _ => place >= 4 && place % 2 == 0,
+        };
+        let pairs = line.chunks(2).enumerate();
+        let low = pairs.filter(|(place, pair)| !high(*place) || pair.len() < 2);
+        low.for_each(|(_, pair)| narrow.extend(pair));
+    }
+    (widen::sheet(&narrow) == text).then_some(narrow)
+}
+
+/// Kept sheets that have a one-byte form give the same at both widths, and tell the same mistakes, but for the one that
+/// counts bytes.
+#[test]
+fn kept_sheets_are_widened() {
+    let mut numbers = BTreeSet::new();
+    let (mut count, mut told) = (0, BTreeSet::new());
+    for (name, text) in corpus::load() {
+        let Some(narrow) = narrowed(&text) else {
+            continue;
+        };
+        numbers.extend(plays_widened(&narrow, &name));
+        let counted = |m: &Mistake| *m == Mistake::LengthInAByte || m.needs_two();
+        let [one, two] = [(One, &narrow), (Two, &text)].map(|(width, text)| {
+            let mut told = Mistake::told_by_at(width, text);
+            told.retain(|mistake| !counted(mistake));
+            told
+        });
+        assert_eq!(one, two, "{name}");
+        told.extend(one);
+        count += 1;
+    }
+    assert!(count > 100, "{count}");
+    let met = [1, 3, 4, 5, 6, 7, 8, 18, 21, 22, 23, 24, 26];
+    assert_eq!(Vec::from_iter(numbers), met);
+    let mut all = Mistake::at(One);
+    all.retain(|m| !m.hidden() && *m != Mistake::LengthInAByte);
+    assert_eq!(Vec::from_iter(told), all);
+}
+
+/// A sheet of one-byte values that is accepted, and whose widened form has the greatest length: case 7 with a set 00, and
+/// an overlong frame for board 3.
+fn longest_when_widened() -> String {
+    let lines = "04100000000505020001040801\n0101000105\n0101000205\n";
+    let text = format!("{lines}01010003{}\n", "07".repeat(16_367));
+    assert_eq!(widened(&text).len(), LONGEST);
+    text
+}
+
+/// At the limits 20 comes first, then 17, by each width's own lengths, then 11; with enough of each a sheet and its
+/// widened form give the same number and line, or lines with 00 before the decision.
+#[test]
+fn limits_are_widened() {
+    let longest = longest_when_widened();
+    let unended = longest.strip_suffix('\n').unwrap();
+    // What each meets at one byte and, widened, at two; 0 if it is accepted.
+    let sheets = [
+        (longest.clone(), [0, 0]),
+        (unended.into(), [21, 21]),
+        (format!("{longest}\n"), [24, 20]),
+        (format!("{longest}0"), [21, 20]),
+        ("0".repeat(LONGEST), [21, 20]),
+        ("0".repeat(LONGEST + 1), [20, 20]),
+        ("0410000000050000\n".into(), [0, 0]),
+        ("041000000005000\n".into(), [21, 21]),
+        ("".into(), [22, 22]),
+    ];
+    for (text, expected) in sheets {
+        let wider = widened(&text);
+        let rooms = [0, 62, 63, 64, 76, 77, 78];
+        for (output, cells) in rooms.iter().flat_map(|o| [(*o, 13_698), (*o, 13_699)]) {
+            let play = |width, text: &str| play_lent(width, text.as_bytes(), output, cells);
+            let [one, two] = expected;
+            for (width, text, number, needed) in [(One, &text, one, 63), (Two, &wider, two, 77)] {
+                let first = match number {
+                    20 => 20,
+                    _ if output < needed => 17,
+                    _ if cells < 13_699 => 11,
+                    number => number,
+                };
+                let met = play(width, text).err();
+                assert_eq!(met.map_or(0, |r| r.number), first, "{output} {cells}");
+                let no_line = met.is_some_and(|r| r.line == 0);
+                assert_eq!(no_line, [20, 17, 11].contains(&first));
+            }
+            let enough = output >= 77 && wider.len() <= LONGEST;
+            if enough {
+                let printed = [play(One, &text), play(Two, &wider)].map(|result| print(&result));
+                assert_eq!(widen::printed(&printed[0]), printed[1], "{output} {cells}");
+            }
+        }
+        plays_widened(text.as_bytes(), "at a limit");
+    }
 }
 
 /// The call of a script in two-byte values: frames, cells and output are wider.
@@ -267,46 +377,30 @@ fn scripts_are_widened() {
 
 // Made sheets and scripts of two bytes
 
-/// What the maker of two-byte sheets is to make.
-fn kinds(outcome: &Outcome) -> Vec<&'static str> {
-    let span = outcome.plan.span;
-    let tells = |value: Value| outcome.told.contains(&value);
-    let kinds = [
-        ("span 2", span == 2),
-        ("span 255", span == 255),
-        ("span 256", span == 256),
-        ("span 257", span == 257),
-        ("span 65,535", span == 0xFFFF),
-        ("value of m - 1", tells(span - 1)),
-        ("value of m", tells(span)),
-        ("value of m + 1", span < 0xFFFF && tells(span + 1)),
-        ("value of FFFF", tells(0xFFFF)),
-    ];
-    let met = kinds.into_iter().filter(|(_, met)| *met);
-    let met = met.map(|(kind, _)| kind);
-    met.chain(kinds_of_two(outcome)).collect()
-}
-
-/// Made sheets of two bytes have all that is asked for, agree, and tell every mistake about two bytes.
+/// Made sheets agree at both widths. Those of two bytes are of every kind that these have, often, and tell every mistake
+/// about them.
 #[test]
-fn made_sheets_of_two_bytes() {
-    let mut met = BTreeSet::new();
+fn made_sheets_of_both_widths() {
+    let mut met: BTreeMap<&str, usize> = BTreeMap::new();
     let mut untold = Mistake::at(Two);
-    untold.retain(|mistake| !Mistake::at(One).contains(mistake));
-    assert_eq!(untold.len(), 7);
-    for seed in 0..3000 {
-        let text = make::sheet_at(Two, seed);
-        let result = play_at(Two, &text, None);
+    untold.retain(|mistake| mistake.needs_two() && !mistake.hidden());
+    assert_eq!(untold.len(), 10);
+    for (seed, width) in (0..3000).flat_map(|seed| Width::BOTH.map(|width| (seed, width))) {
+        let text = make::sheet_at(width, seed);
+        let result = play_at(width, &text, None);
         let right = print(&result);
-        if seed % 4 == 0 {
+        if width == Two {
             untold.retain(|m| print(&play_at(Two, &text, Some(*m))) == right);
         }
         let Ok(outcome) = result else {
             continue;
         };
-        let sheet = read_at(Two, &text, None).unwrap();
+        let sheet = read_at(width, &text, None).unwrap();
         assert_eq!(sheet.write(), text, "seed {seed}");
-        met.extend(kinds(&outcome));
+        let kinds = wide::kinds(width).iter();
+        for (kind, _) in kinds.filter(|(_, shows)| shows(&outcome)) {
+            *met.entry(kind).or_default() += 1;
+        }
         let first = outcome.lines[0].decision;
         for line in &outcome.lines {
             assert!(!has(line.list, line.board), "seed {seed}");
@@ -317,42 +411,8 @@ fn made_sheets_of_two_bytes() {
             .all(|(_, holds)| holds(&outcome)));
     }
     assert_eq!(untold, []);
-    assert_eq!(met.len(), 9 + wide::kinds(Two).len(), "{met:?}");
-}
-
-/// The sheets of `two` show what they are named for; together all that only two bytes can show.
-#[test]
-fn prepared_sheets() {
-    let folder = concat!(env!("CARGO_MANIFEST_DIR"), "/two");
-    let (mut told, mut met) = (BTreeSet::new(), BTreeSet::new());
-    for entry in std::fs::read_dir(folder).unwrap() {
-        let path = entry.unwrap().path();
-        let name = path.file_stem().unwrap().to_string_lossy().into_owned();
-        let text = std::fs::read(&path).unwrap();
-        let result = play_at(Two, &text, None);
-        let words: Vec<&str> = name.split('-').collect();
-        let refused = result.as_ref().err().map(|refusal| refusal.number);
-        match words[0] {
-            "refusal" => assert_eq!(refused, words[1].parse().ok(), "{name}"),
-            _ => assert_eq!(refused, None, "{name}"),
-        }
-        let mut mistakes = Mistake::told_by_at(Two, &text);
-        mistakes.retain(|mistake| !Mistake::at(One).contains(mistake));
-        let named = |mistake: &Mistake| format!("mistake-{mistake:?}") == name;
-        assert!(
-            words[0] != "mistake" || mistakes.iter().any(named),
-            "{name}"
-        );
-        told.extend(mistakes);
-        met.extend(result.iter().flat_map(kinds_of_two));
-    }
-    assert_eq!(told.len(), 7, "{told:?}");
     assert_eq!(met.len(), wide::kinds(Two).len(), "{met:?}");
-}
-
-fn kinds_of_two(outcome: &Outcome) -> Vec<&'static str> {
-    let wide = wide::kinds(Two).iter().filter(|(_, shows)| shows(outcome));
-    wide.map(|(kind, _)| *kind).collect()
+    assert!(met.values().all(|count| *count >= 10), "{met:?}");
 }
 
 /// A span above 255 is not tried value by value, and gives what a smaller one gives if all values are below both.
@@ -382,24 +442,48 @@ fn few_values_are_enough() {
     assert!(played > 500, "{played}");
 }
 
-/// Scripts of two bytes meet nearly all that is asked for, fit their blocks, and tell every hidden mistake.
+/// Kept sheets of 0 and 1 with two other values in their stead, which may differ in one byte alone: the decision and the
+/// roots are renamed, and all else is the same.
+#[test]
+fn values_are_renamed() {
+    let mut renamed = 0;
+    for (name, text) in corpus::load() {
+        let Ok(outcome) = play_at(Two, &text, None) else {
+            continue;
+        };
+        if outcome.plan.span != 2 || outcome.told.iter().any(|value| *value > 1) {
+            continue;
+        }
+        for (span, zero, one) in [(257, 256, 0), (0xFFFF, 0x0105, 0x0205), (0x8001, 1, 0x8000)] {
+            let mut sheet = read_at(Two, &text, None).unwrap();
+            chain::rename(&mut sheet, span, zero, one);
+            let other = session::play_sheet(&sheet, None);
+            let (mut lines, mut roots) = (outcome.lines.clone(), outcome.roots.clone());
+            let decisions = lines.iter_mut().map(|line| &mut line.decision);
+            let all = decisions.chain(roots.iter_mut().flatten());
+            all.for_each(|value| *value = if *value == 0 { zero } else { one });
+            assert_eq!((lines, roots), (other.lines, other.roots), "{name}");
+            assert_eq!(outcome.lists, other.lists, "{name}");
+            renamed += 1;
+        }
+    }
+    assert!(renamed > 100, "{renamed}");
+}
+
+/// Scripts of two bytes tell every mistake about them.
 #[test]
 fn scripts_of_two_bytes() {
-    let mut met = second::met::Met::default();
+    use Mistake::*;
     let mut untold = Mistake::at(Two);
-    untold.retain(|mistake| mistake.hidden() || !Mistake::at(One).contains(mistake));
-    // Heads and printed lines are no part of calls.
-    untold.retain(|m| !matches!(m, Mistake::HeadLowByteFirst | Mistake::DecisionLowByteFirst));
+    untold.retain(|mistake| mistake.needs_two());
+    // Heads and printed lines are no part of calls, and no block has room for 256 values more than are due.
+    untold.retain(|m| !matches!(m, HeadLowByteFirst | DecisionLowByteFirst | CountInAByte));
+    assert_eq!(untold.len(), 8);
     for place in 0..600 {
         let script = Script::at(Two, make::own_seed(3, place));
         untold.retain(|mistake| !script.tells(*mistake));
-        met.add(&script.met);
-        assert_eq!(script.blocks().len(), 512 * script.steps.len());
     }
     assert_eq!(untold, []);
-    assert_eq!(met.impossible(), [""; 0]);
-    let missing = met.missing(Two);
-    assert!(missing.len() < 12, "{missing:?}");
 }
 
 /// The form of a block and of what is told, at both widths.

@@ -4,11 +4,12 @@
 //! For another depth the set of the boards 0 to 4 gives six, which are cut, and boards get listed.
 //! With `every` the sets name every board, and number 5 must try them: the set of the boards 0 to 3 gives five levels,
 //! which is the most that leaves room for it. That set stands last of SETS. Three of its boards are faulty and send frames.
+//! Spans are at most 255: the sheets are made in one-byte values and widened, so that both widths have the same sessions.
 
 use second::make;
 use second::plan::{Plan, Set};
 use second::prng::Prng;
-use second::CURRENT;
+use second::{widen, Width};
 
 fn main() {
     let args: Vec<String> = std::env::args().skip(1).collect();
@@ -46,7 +47,7 @@ fn sheet(depth: u8, count: u64, seed: u64, every: bool) -> Vec<u8> {
     };
     // The dealer is faulty in every other sheet.
     let faulty = if seed % 2 == 0 { 0b000111 } else { 0b001110 };
-    make::lied_to(CURRENT, plan, faulty, &mut rng).write()
+    widen::sheet(&make::lied_to(Width::One, plan, faulty, &mut rng).write())
 }
 
 /// A set beside the large one, so that no three cover all boards. Board 6 is in none; if the large set has four boards,
