@@ -26,13 +26,13 @@ returns c =
 
 pub put-value-spec : {M : Type 1} → statement M
 put-value-spec = tie.close (
-  tie.spec
-  (λ c. search needs)
-  (λ c κs. search needs)
-  (λ c. search needs)
-  (λ c κs. search needs)
-  (λ c. search needs)
-  write-low
-  (λ c. search needs)
-  returns
-)
+    tie.spec
+    (λ c. search needs)
+    (λ c κs. search needs)
+    (λ c. search needs)
+    (λ c κs. search needs)
+    (λ c. search needs)
+    write-low
+    (λ c. search needs)
+    returns
+    )
