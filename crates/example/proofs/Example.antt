@@ -8,7 +8,7 @@ use native.Mathlib.Omega.{arith}
 use lib.Dec.{eqb, ltb}
 use lib.ListN.{length, replicate}
 use borrow.Author.Tests.{ltb-true}
-use Rattle.codec.specs.Codec.{encode, decode, numberAt}
+use Rattle.codec.specs.Codec.{encode, pairs, decode, numberAt}
 use Rattle.sets.specs.Search.{first, any, count}
 use Rattle.sets.specs.Tabulate.{tabulate}
 use Rattle.sets.specs.Sets.{member, union, insert, within, boards, setOf, size}
@@ -58,16 +58,16 @@ pub record Computed : Type 0 where
   -- both boards decide on the dealer's word, with nobody on their lists
   pub decided1 : state exampleSetting exampleCalls 1 .rec .decided ≡ true
   pub decided2 : state exampleSetting exampleCalls 2 .rec .decided ≡ true
-  pub decision1 : state exampleSetting exampleCalls 1 .rec .decision ≡ 5
-  pub decision2 : state exampleSetting exampleCalls 2 .rec .decision ≡ 5
+  pub decision1 : state exampleSetting exampleCalls 1 .rec .decision ≡ 261
+  pub decision2 : state exampleSetting exampleCalls 2 .rec .decision ≡ 261
   pub list1 : state exampleSetting exampleCalls 1 .rec .list ≡ noEntries
   pub list2 : state exampleSetting exampleCalls 2 .rec .list ≡ noEntries
   -- and leave the surplus cell alone
-  pub cells1 : state exampleSetting exampleCalls 1 .cells ≡ 5 ∷ replicate 15 255
-  pub cells2 : state exampleSetting exampleCalls 2 .cells ≡ (5 ∷ replicate 15 255) ++ (7 ∷ [])
+  pub cells1 : state exampleSetting exampleCalls 1 .cells ≡ 261 ∷ replicate 15 65535
+  pub cells2 : state exampleSetting exampleCalls 2 .cells ≡ (261 ∷ replicate 15 65535) ++ (7 ∷ [])
 
 pub computed : Computed
-unfolding encode decode numberAt first any count member union insert within boards setOf size holder isSome tolerated strays covers thirdPlace secondPlace firstPlace covered listed largest height isCut rounds runs firstRound hasRound covering admitting andThen isDepth judgeSettings planning planOn judged occurs mask last levelSize levelStart cellCount ordinal rank place cellAt store default value read filter internal nodes inner carried sent due frame only same vote tabulate resolve resolveRoot explained byCell byResolving entryAt hasEntry levelOf join asSet passes maskBoard detectG detectAllG detectC detectAllC detectLevels fill counted receive fillMissing copyOwn gather rootOnly nextRound convert runEnded close isTaken judgeNumber judgeOther judgeBoard judgeCells goodPlan goodNumber goodOther goodPosition goodMarks goodEntry goodEntries goodDecision goodRecord judgeRecord judgeOpen freshRecord voidRecord judgeBeginning beginning dealing judgeReceiving taking receiving frameOf wireOf judgeSending sending closedValues closing deciding begun answers after caller keeper leaves state afterOne sameList exampleSetting exampleAhead exampleRest exampleCalls said everywhere somewhere alike writes hands truthful lacks fairCall fairCheck carriesCall carriesCheck exampleAnswers
+unfolding encode pairs decode numberAt first any count member union insert within boards setOf size holder isSome tolerated strays covers thirdPlace secondPlace firstPlace covered listed largest height isCut rounds runs firstRound hasRound covering admitting andThen isDepth judgeSettings planning planOn judged occurs mask last levelSize levelStart cellCount ordinal rank place cellAt store default value read filter internal nodes inner carried sent due frame only same vote tabulate resolve resolveRoot explained byCell byResolving entryAt hasEntry levelOf join asSet passes maskBoard detectG detectAllG detectC detectAllC detectLevels fill counted receive fillMissing copyOwn gather rootOnly nextRound convert runEnded close isTaken judgeNumber judgeOther judgeBoard judgeCells goodPlan goodNumber goodOther goodPosition goodMarks goodEntry goodEntries goodDecision goodRecord judgeRecord judgeOpen freshRecord voidRecord judgeBeginning beginning dealing judgeReceiving taking receiving frameOf wireOf judgeSending sending closedValues closing deciding begun answers after caller keeper leaves state afterOne sameList exampleSetting exampleAhead exampleRest exampleCalls said everywhere somewhere alike writes hands truthful lacks fairCall fairCheck carriesCall carriesCheck exampleAnswers
 computed = record {
   accepted = refl;
   tolerable = refl;
@@ -99,7 +99,7 @@ unfolding exampleSetting planOn
 example-sound = record {
   accepted = computed .accepted;
   tolerable = computed .tolerable;
-  word-below = λ _. ltb-true 5 16 (computed .word-below);
+  word-below = λ _. ltb-true 261 300 (computed .word-below);
   cells-enough = λ i _. enough (eqb i 2);
 }
 
