@@ -10,7 +10,7 @@ pub data Width : Type 0 where
   one : Width
   two : Width
 
--- The width of the code's values. 02 g: "a value has two bytes, high byte first"; 01 has one.
+-- The width of the code's values. 02 g: "Spans go up to 65,535, cells hold two bytes' worth"; 01 has one byte.
 abbrev pub current : Width
 current = two
 
