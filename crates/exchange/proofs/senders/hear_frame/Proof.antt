@@ -8,6 +8,7 @@ use native.Mathlib.Omega.{arith}
 use lib.ListN.{length, take}
 use borrow.Author.Needs.{needs}
 use Rattle.sets.specs.Sets.{member}
+use Rattle.protocol.specs.Limits.{cellsNeeded}
 use Rattle.finding.specs.Frames.{framesFrom}
 use Rattle.stage.specs.Stage.{Stage, onStage}
 use Rattle.stage.proofs.Room.{count-is, part-inside, part-small}
@@ -28,27 +29,26 @@ loop-holds : tie.Need-loop-holds Inv-loop μ-loop
 unfolding onStage
 loop-holds c = (search needs, refl, refl, refl, λ _. refl)
 
-add-e : tie.Need-add-e Inv-loop μ-loop
-add-e c =
+-- The board's part ends within the cells of seven boards.
+small : (c : tie.Then1 Inv-loop μ-loop) → let turned = c .before .before .before in
+    let size = turned .before .cell-count .result in
+    turned .loop .i * size + size ≤ cellsNeeded
+small c =
     let turned = c .before .before .before in
     let counted = turned .before in
     let lent = counted .before .before in
     let start = lent .before .before in
     let size = counted .cell-count in
-    record { fits = omega (arith, part-small (start .args .head) (start .args .cells .now) (start .pre .ready .roomy) (turned .loop .i) (size .result) (size .ensures) (omega arith)) }
+    part-small (start .args .head) (start .args .cells .now) (start .pre .ready .roomy) (turned .loop .i) (size .result) (size .ensures) (omega arith)
+
+add-e : tie.Need-add-e Inv-loop μ-loop
+add-e c = record { fits = omega (arith, small c) }
 
 mul-a : tie.Need-mul-a Inv-loop μ-loop
 mul-a c = record { fits = omega (arith, add-e c .fits) }
 
 mul-hear-from : tie.Need-mul-hear-from Inv-loop μ-loop
-mul-hear-from c =
-    let keeps = c .before .before in
-    let turned = keeps .before .before .before in
-    let counted = turned .before in
-    let lent = counted .before .before in
-    let start = lent .before .before in
-    let size = counted .cell-count in
-    record { fits = omega (arith, part-small (start .args .head) (start .args .cells .now) (start .pre .ready .roomy) (turned .loop .i) (size .result) (size .ensures) (omega arith)) }
+mul-hear-from c = record { fits = omega (arith, small (c .before .before)) }
 
 part-hear-from-end : tie.Need-part-hear-from-end Inv-loop μ-loop
 part-hear-from-end c =
