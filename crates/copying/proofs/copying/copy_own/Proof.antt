@@ -1,11 +1,10 @@
 -- `copy_own` meets its contract: the board's own frame is written, and stored at its own children.
 -- Assumes nothing.
-use Prim.Native.Nat.{_-_, _*_, _≤_}
+use Prim.Native.Nat.{_-_, _≤_}
 use mathlib.Core.Path.{refl, _∙_}
 use native.Mathlib.Omega.{arith}
-use lib.ListN.{length, take}
+use lib.ListN.{take}
 use borrow.Author.Needs.{needs}
-use Rattle.codec.specs.Codec.{current, valueSize}
 use Rattle.protocol.proofs.Few.{carried-few}
 use Rattle.frames.proofs.Listed.{carried-walkable, front-fits, front-few, front-nodes, front-without, front-labels}
 use Rattle.copying.proofs.Copied.{own-copied}
@@ -38,16 +37,21 @@ write-at-requires c κs =
     let few = front-few (e .pre .standing) (e .pre .later) (e .args .board) (x .ensures) (e .pre .standing .board-below) in
     record { are-nodes = front-nodes (e .pre .standing) (e .pre .later) (e .args .board) (x .ensures); enough = e .pre .enough; room = omega (arith, few) }
 
-mul-length : tie.Need-mul-length
-mul-length c =
-    let at-write-at = c .before in
-    let at-write-at-arg = at-write-at .before .before .before in
+-- The frame to oneself has at most 120 values.
+few : (c : tie.After-write-at) → let at-write-at-arg = c .before .before .before in
+    let at-carried-nodes = at-write-at-arg .before .before .before in
+    at-carried-nodes .carried-nodes .result ≤ 120
+few c =
+    let at-write-at-arg = c .before .before .before in
     let at-carried-nodes = at-write-at-arg .before .before .before in
     let at-nodes = at-carried-nodes .before in
     let at-shared-slice-known = at-nodes .before .before .before in
     let e = at-shared-slice-known .before in
     let x = at-carried-nodes .carried-nodes in
-    search (needs, front-fits (e .pre .standing) (e .pre .later) (e .args .board) (x .ensures) (e .pre .standing .board-below) (x .kept .1 .1 .1 .1 .1 .0), x .kept .1 .1 .1 .1 .1 .0)
+    omega (arith, x .ensures .counted, carried-few (e .args .plan) (e .args .board) (e .args .board) (e .args .round .0 - 1) (e .pre .standing .dealer-below) (e .pre .standing .most-boards) (e .pre .standing .board-below))
+
+mul-length : tie.Need-mul-length
+mul-length c = record { fits = omega (arith, few (c .before)) }
 
 part-store-at-end : tie.Need-part-store-at-end
 part-store-at-end c =
@@ -64,16 +68,7 @@ part-store-at-end-2 : tie.Need-part-store-at-end-2
 part-store-at-end-2 c =
     let at-own2 = c .before .before .before in
     let at-write-at = at-own2 .before in
-    let at-write-at-arg = at-write-at .before .before .before in
-    let at-carried-nodes = at-write-at-arg .before .before .before in
-    let at-nodes = at-carried-nodes .before in
-    let at-shared-slice-known = at-nodes .before .before .before in
-    let e = at-shared-slice-known .before in
-    let x = at-carried-nodes .carried-nodes in
-    let y = at-write-at .write-at in
-    let fits : valueSize current * x .result ≤ length (y .last .1 .1 .1 .1 .0) =
-    omega (arith, x .ensures .counted, carried-few (e .args .plan) (e .args .board) (e .args .board) (e .args .round .0 - 1) (e .pre .standing .dealer-below) (e .pre .standing .most-boards) (e .pre .standing .board-below), y .kept .1 .1 .1 .1 .0) in
-    fits
+    omega (arith, few at-write-at, at-write-at .write-at .kept .1 .1 .1 .1 .0)
 
 store-at-requires : tie.Need-store-at-requires
 store-at-requires c κs =

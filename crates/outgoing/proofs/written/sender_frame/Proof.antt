@@ -1,7 +1,9 @@
 -- `sender_frame` meets its contract: the board's part lies within the cells.
 -- Assumes nothing.
+use Prim.Native.Nat.{_+_, _*_, _≤_}
 use mathlib.Core.Path.{sym, ap, _∙_}
 use native.Mathlib.Omega.{arith}
+use lib.ListN.{length}
 use borrow.Author.Needs.{needs}
 use Rattle.stage.specs.Stage.{Stage, boardOn}
 use Rattle.stage.proofs.Room.{count-is, part-inside}
@@ -16,35 +18,27 @@ returns c =
     let a = asked .before .before .before .args in
     record { fits = omega arith; front = none-faulty a.head a.q _ (sym (asked .member .ensures) ∙ c .if1 .taken) }
 
-mul-a : tie.Need-mul-a
-mul-a c =
+-- The board's part is within the cells.
+inside : (c : tie.After-cell-count) → let at-member = c .before .before in
+    let a = at-member .before .before .before .args in
+    let size = c .cell-count .result in
+    a.q * size + size ≤ length (a.cells .now)
+inside c =
     let at-member = c .before .before in
     let start = at-member .before .before .before in
-    let inside = part-inside (start .args .head) (start .args .cells .now) (start .pre .roomy) (start .args .q) (c .cell-count .result) (c .cell-count .ensures) (start .pre .sender) in
-    record { fits = omega (arith, inside) }
+    part-inside (start .args .head) (start .args .cells .now) (start .pre .roomy) (start .args .q) (c .cell-count .result) (c .cell-count .ensures) (start .pre .sender)
+
+mul-a : tie.Need-mul-a
+mul-a c = record { fits = omega (arith, inside c) }
 
 add-e : tie.Need-add-e
-add-e c =
-    let at-member = c .before .before in
-    let start = at-member .before .before .before in
-    let inside = part-inside (start .args .head) (start .args .cells .now) (start .pre .roomy) (start .args .q) (c .cell-count .result) (c .cell-count .ensures) (start .pre .sender) in
-    record { fits = omega (arith, inside) }
+add-e c = record { fits = omega (arith, inside c) }
 
 mul-frame-of : tie.Need-mul-frame-of
-mul-frame-of c =
-    let counted = c .before in
-    let at-member = counted .before .before in
-    let start = at-member .before .before .before in
-    let size = counted .cell-count in
-    search (needs, part-inside (start .args .head) (start .args .cells .now) (start .pre .roomy) (start .args .q) (size .result) (size .ensures) (start .pre .sender))
+mul-frame-of c = search (needs, inside (c .before))
 
 part-frame-of-end : tie.Need-part-frame-of-end
-part-frame-of-end c =
-    let counted = c .before in
-    let at-member = counted .before .before in
-    let start = at-member .before .before .before in
-    let size = counted .cell-count in
-    omega (arith, part-inside (start .args .head) (start .args .cells .now) (start .pre .roomy) (start .args .q) (size .result) (size .ensures) (start .pre .sender))
+part-frame-of-end c = omega (arith, inside (c .before))
 
 returns-2 : tie.Need-returns-2
 returns-2 c =

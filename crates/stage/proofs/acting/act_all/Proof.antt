@@ -23,34 +23,30 @@ loop-holds : tie.Need-loop-holds Inv-loop μ-loop
 unfolding onStage
 loop-holds c = (search needs, refl, refl)
 
-add-e : tie.Need-add-e Inv-loop μ-loop
-add-e c =
+-- The board's part is within the cells.
+inside : (c : tie.Then1 Inv-loop μ-loop) → let turned = c .before .before .before in
+    let counted = turned .before in
+    let size = counted .cell-count .result in
+    turned .loop .i * size + size ≤ length (counted .before .before .before .args .cells .now)
+inside c =
     let turned = c .before .before .before in
     let counted = turned .before in
     let start = counted .before .before .before in
-    let head = start .args .head in
-    record { fits = omega (arith, part-inside head (start .args .cells .now) (start .pre) (turned .loop .i) (counted .cell-count .result) (counted .cell-count .ensures) (omega arith)) }
+    part-inside (start .args .head) (start .args .cells .now) (start .pre) (turned .loop .i) (counted .cell-count .result) (counted .cell-count .ensures) (omega arith)
+
+add-e : tie.Need-add-e Inv-loop μ-loop
+add-e c = record { fits = omega (arith, inside c) }
 
 mul-a : tie.Need-mul-a Inv-loop μ-loop
 mul-a c = record { fits = omega (arith, add-e c .fits) }
 
 mul-act-one : tie.Need-mul-act-one Inv-loop μ-loop
-mul-act-one c =
-    let in-loop = c .before .before .before in
-    let turned = in-loop .before in
-    let counted = turned .before in
-    let start = counted .before .before .before in
-    let head = start .args .head in
-    search (needs, part-inside head (start .args .cells .now) (start .pre) (turned .loop .i) (counted .cell-count .result) (counted .cell-count .ensures) (omega arith))
+mul-act-one c = search (needs, inside (c .before))
 
 part-act-one-end : tie.Need-part-act-one-end Inv-loop μ-loop
 part-act-one-end c =
     let in-loop = c .before .before .before in
-    let turned = in-loop .before in
-    let counted = turned .before in
-    let start = counted .before .before .before in
-    let head = start .args .head in
-    omega (arith, part-inside head (start .args .cells .now) (start .pre) (turned .loop .i) (counted .cell-count .result) (counted .cell-count .ensures) (omega arith), turned .loop .inv .2)
+    omega (arith, inside (c .before), in-loop .before .loop .inv .2)
 
 loop-again : tie.Need-loop-again Inv-loop μ-loop
 loop-again c =
