@@ -15,7 +15,7 @@ use Rattle.hex.specs.Hex.{digit}
 use Rattle.hex.specs.Bytes.{byteOf, byteAt, bytesFrom}
 use Rattle.hex.proofs.Bytes.{bytes-more, bytes-length, bytes-take}
 use Rattle.finding.specs.Frames.{lineFrame}
-use Rattle.fetching.specs.Fetched.{Read, readLength, readValues, readInto}
+use Rattle.fetching.specs.Fetched.{Read, readLength, readBytes, readInto}
 use Rattle.finding.specs.Places.{lineStop, lineAt, frameAt}
 
 -- The values stand after the first eight digits.
@@ -65,8 +65,8 @@ module _ (digits buffer : List ℕ) where
       omega (arith, a, bytes-length digits 0 i, length-drop i buffer)
 
   -- All that the buffer takes.
-  decoded-whole : decoded (min (length digits / 2) (length buffer)) ≡ readValues (some (bytesFrom digits 0 (length digits / 2))) buffer
-  unfolding readValues
+  decoded-whole : decoded (min (length digits / 2) (length buffer)) ≡ readBytes (some (bytesFrom digits 0 (length digits / 2))) buffer
+  unfolding readBytes
   decoded-whole =
       let n = length digits / 2 in
       let r = length buffer in
@@ -90,7 +90,7 @@ module _ (digits buffer : List ℕ) where
 -- What is read of the frame at a place.
 module _ (v : Option (List ℕ)) (text buffer : List ℕ) (at : ℕ) (here : frameAt text at ≡ v) where
   pub read-missing : length text ≤ at → record { count = none; buffer = buffer } ≡ readInto v buffer
-  unfolding frameAt readLength readValues
+  unfolding frameAt readLength readBytes
   read-missing l =
       let x : none ≡ v = rw (le-ltb at (length text) l) at here in
       rw (← x) refl
@@ -107,7 +107,7 @@ module _ (v : Option (List ℕ)) (text buffer : List ℕ) (at : ℕ) (here : fra
       let values : some vs ≡ v = ap (λ d. some (bytesFrom d 0 (length d / 2))) same ∙ ap some (values-later line) ∙ is in
       er ∙ ap (λ o. readInto o buffer) values
 
--- For callers: what was read is what the buffer takes of the frame's values.
+-- For callers: what was read is what the buffer takes of the frame's bytes.
 pub read-missed : (v : Option (List ℕ)) (room : ℕ) → readLength v room ≡ none → v ≡ none
 unfolding readLength
 read-missed none room e = refl
@@ -119,10 +119,10 @@ read-frame-is none room k e = let z : _≡_ {A = ℕ} 0 1 = cc in absurd (omega 
 read-frame-is (some vs) room k e = (vs, refl, let z : k ≡ min (length vs) room = cc in z)
 
 pub read-taken : (v : Option (List ℕ)) (vs buffer : List ℕ) (room k : ℕ) → v ≡ some vs → length buffer ≡ room → readLength v room ≡ some k
-    → take k (readValues v buffer) ≡ take room vs
-unfolding readLength readValues
+    → take k (readBytes v buffer) ≡ take room vs
+unfolding readLength readBytes
 read-taken v vs buffer room k x r e =
     let y : some (min (length vs) room) ≡ some k = rw x at e in
     let z : min (length vs) room ≡ k = cc in
     let size : length (take (length buffer) vs) ≡ k = omega (arith, length-take (length buffer) vs) in
-    ap (λ o. take k (readValues o buffer)) x ∙ take-at (take (length buffer) vs) (drop (length vs) buffer) k size ∙ ap (λ m. take m vs) r
+    ap (λ o. take k (readBytes o buffer)) x ∙ take-at (take (length buffer) vs) (drop (length vs) buffer) k size ∙ ap (λ m. take m vs) r

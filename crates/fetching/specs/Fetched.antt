@@ -4,14 +4,14 @@ use mathlib.Core.List.{List, _++_}
 use mathlib.Core.Option.{Option, some, none}
 use lib.ListN.{length, take, drop}
 use Rattle.fetching.specs.declared.fetching.Found.{Found}
-use Rattle.fetching.specs.declared.fetching.Found.the-variants.{Missing, Values}
+use Rattle.fetching.specs.declared.fetching.Found.the-variants.{Missing, Bytes}
 
--- A frame of the sheet: none, or how many of its values were read.
+-- A frame of the sheet: none, or how many of its bytes were read.
 unfoldable pub foundSays : Found → Option ℕ
 foundSays Missing = none
-foundSays (Values k) = some k
+foundSays (Bytes k) = some k
 
--- What is read of a frame, as many values as the buffer takes: their number, none if there is no frame, and the buffer.
+-- What is read of a frame, as many bytes as the buffer takes: their number, none if there is no frame, and the buffer.
 pub record Read : Type 0 where
   pub count : Option ℕ
   pub buffer : List ℕ
@@ -20,9 +20,9 @@ unfoldable pub readLength : Option (List ℕ) → ℕ → Option ℕ
 readLength none room = none
 readLength (some vs) room = some (min (length vs) room)
 
-unfoldable pub readValues : Option (List ℕ) → List ℕ → List ℕ
-readValues none buffer = buffer
-readValues (some vs) buffer = take (length buffer) vs ++ drop (length vs) buffer
+unfoldable pub readBytes : Option (List ℕ) → List ℕ → List ℕ
+readBytes none buffer = buffer
+readBytes (some vs) buffer = take (length buffer) vs ++ drop (length vs) buffer
 
 abbrev pub readInto : Option (List ℕ) → List ℕ → Read
-readInto v buffer = record { count = readLength v (length buffer); buffer = readValues v buffer }
+readInto v buffer = record { count = readLength v (length buffer); buffer = readBytes v buffer }

@@ -14,10 +14,10 @@ ghost use Rattle.hex.specs.Bytes.{bytesFrom};
 ghost use Rattle.finding.specs.Frames.{framesFrom, Rising};
 ghost use Rattle.fetching.specs.Fetched.{foundSays, readInto};
 
-// A frame of the sheet: none, or how many of its values were read.
+// A frame of the sheet: none, or how many of its bytes were read.
 pub enum Found {
     Missing,
-    Values(usize),
+    Bytes(usize),
 }
 
 // The smaller of two numbers.
@@ -30,20 +30,20 @@ fn smaller(a: usize, b: usize) -> usize
     b
 }
 
-// As many values as the buffer takes.
-fn decode(digits: &[u8], values: &mut [u8]) -> usize
-    ensures { λ r. ⌜ record { count = some r; buffer = now (values .exit) } ≡ readInto (some (bytesFrom (now (digits .entry)) 0 (length (now (digits .entry)) / 2))) (now (values .entry)) ⌝ }
+// As many bytes as the buffer takes.
+fn decode(digits: &[u8], bytes: &mut [u8]) -> usize
+    ensures { λ r. ⌜ record { count = some r; buffer = now (bytes .exit) } ≡ readInto (some (bytesFrom (now (digits .entry)) 0 (length (now (digits .entry)) / 2))) (now (bytes .entry)) ⌝ }
 {
-    let count = smaller(digits.len() / 2, values.len());
+    let count = smaller(digits.len() / 2, bytes.len());
     let mut i: usize = 0;
     while i < count {
-        values[i] = byte_at(digits, i);
+        bytes[i] = byte_at(digits, i);
         i += 1;
     }
     i
 }
 
-// The values of the sheet's frame for a run, a round, a sender and a receiver.
+// The bytes of the sheet's frame for a run, a round, a sender and a receiver.
 pub fn read_frame(
     text: &[u8],
     from: usize,
@@ -51,15 +51,15 @@ pub fn read_frame(
     round: Round,
     sender: u8,
     receiver: u8,
-    values: &mut [u8],
+    bytes: &mut [u8],
 ) -> Found
     requires { ⌜ Rising (now text) from ⌝ }
-    ensures { λ r. ⌜ record { count = foundSays r; buffer = now (values .exit) } ≡ readInto (findFrame run round sender receiver (framesFrom (now (text .entry)) from)) (now (values .entry)) ⌝ }
+    ensures { λ r. ⌜ record { count = foundSays r; buffer = now (bytes .exit) } ≡ readInto (findFrame run round sender receiver (framesFrom (now (text .entry)) from)) (now (bytes .entry)) ⌝ }
 {
     let at = find_line(text, from, run, round, sender, receiver);
     if text.len() <= at {
         return Found::Missing;
     }
     let end = line_end(text, at);
-    Found::Values(decode(values_of(&text[at..end]), values))
+    Found::Bytes(decode(values_of(&text[at..end]), bytes))
 }

@@ -15,7 +15,7 @@ use Rattle.protocol.specs.Session.{handIn}
 use Rattle.sheet.specs.Playing.{decoded}
 use Rattle.protocol.proofs.Few.{overlong}
 use Rattle.fetching.specs.declared.fetching.Found.{Found}
-use Rattle.fetching.specs.declared.fetching.Found.the-variants.{Missing, Values}
+use Rattle.fetching.specs.declared.fetching.Found.the-variants.{Missing, Bytes}
 use Rattle.fetching.specs.Fetched.{Read, foundSays, readLength, readInto}
 use Rattle.fetching.proofs.FetchedFrame.{read-taken, read-frame-is, read-missed}
 
@@ -25,7 +25,7 @@ module _ (v : Option (List ℕ)) (buffer : List ℕ) (room : length buffer ≡ f
   count-is : foundSays found ≡ readLength v (frameRoom current)
   count-is = ap (λ (x : Read). x .count) read ∙ ap (readLength v) room
 
-  values-are : (k : ℕ) → found ≡ Values k → some k ≡ readLength v (frameRoom current)
+  values-are : (k : ℕ) → found ≡ Bytes k → some k ≡ readLength v (frameRoom current)
   unfolding foundSays
   values-are k e = ap foundSays (sym e) ∙ count-is
 
@@ -35,10 +35,10 @@ module _ (v : Option (List ℕ)) (buffer : List ℕ) (room : length buffer ≡ f
       let none-read = ap foundSays (sym e) ∙ count-is in
       ap (λ x. handIn q (decoded current x) b) (sym (read-missed v (frameRoom current) (sym none-read)))
 
-  pub read-fits : (k : ℕ) → found ≡ Values k → k ≤ frameRoom current
+  pub read-fits : (k : ℕ) → found ≡ Bytes k → k ≤ frameRoom current
   read-fits k e = let (vs, _, z) = read-frame-is v (frameRoom current) k (sym (values-are k e)) in omega (arith, z)
 
-  pub read-heard : (k q : ℕ) (r : Record) (cells : List ℕ) → found ≡ Values k
+  pub read-heard : (k q : ℕ) (r : Record) (cells : List ℕ) → found ≡ Bytes k
       → receiving (boardWith r cells) q (take (k - 0) last) .board ≡ handIn q (decoded current v) (boardWith r cells)
   unfolding handIn decoded receiving
   read-heard k q r cells e =

@@ -28,7 +28,7 @@ fn hear_faulty(
     let round = r.round;
     match read_frame(text, from, run, round, q, r.board, frame) {
         Found::Missing => r,
-        Found::Values(k) => {
+        Found::Bytes(k) => {
             let heard = receive(r, cells, q, &frame[0..k]);
             heard.rec
         }

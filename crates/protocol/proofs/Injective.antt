@@ -1,11 +1,14 @@
--- What an answer says determines it.
+-- What an answer says determines it; what the dealer's says, by its value.
 -- Assumes nothing.
+use Prim.Native.Nat.{ℕ, _/_, _%_}
 use mathlib.Core.Path.{_≡_, refl, sym, _∙_, ap}
 use mathlib.Core.Bool.{cond}
+use mathlib.Core.List.{[], _∷_}
 use lib.Dec.{eqb}
 use lib.ListN.{length, getD, drop}
 use borrow.Author.Tests.{ne-eqb}
-use Rattle.refusals.specs.Outcome.{Outcome, refusal}
+use Rattle.codec.specs.Codec.{two, encode}
+use Rattle.refusals.specs.Outcome.{Outcome, taken, refusal}
 use Rattle.refusals.proofs.Outcomes.{refusal-number}
 use Rattle.refusals.proofs.Injective.{why, why-refusal}
 use Rattle.protocol.specs.Answers.{dealtSays, sentSays, closingSays, decisionSays, playedSays}
@@ -23,6 +26,11 @@ use Rattle.protocol.specs.declared.answers.Played.the-variants as P
 -- A meaning with a left inverse is injective.
 injective : {A : Type 0} (says : A → Outcome) (back : Outcome → A) → ((a : A) → back (says a) ≡ a) → (a b : A) → says a ≡ says b → a ≡ b
 injective says back h a b e = sym (h a) ∙ ap back e ∙ h b
+
+-- The dealer's answer says the bytes of its value, the high one first.
+pub dealt-encoded : (v : ℕ) → dealtSays (D.Frame (v / 256) (v % 256)) ≡ taken (encode two (v ∷ []))
+unfolding dealtSays encode
+dealt-encoded v = refl
 
 dealtBack : Outcome → Dealt
 dealtBack o = cond (eqb (o .number) 0) (D.Frame (getD (o .values) 0 0) (getD (o .values) 1 0)) (D.Refused (why o))

@@ -17,7 +17,7 @@ returns c =
     let start = at-find-line .before .before .before in
     let a = start .args in
     let f = at-find-line .find-line in
-    read-missing (findFrame a.run a.round a.sender a.receiver (framesFrom (a.text .now) a.from)) (a.text .now) (a.values .now) (f .result) (f .ensures) (c .if1 .taken)
+    read-missing (findFrame a.run a.round a.sender a.receiver (framesFrom (a.text .now) a.from)) (a.text .now) (a.bytes .now) (f .result) (f .ensures) (c .if1 .taken)
 
 sub-values-of : tie.Need-sub-values-of
 sub-values-of c =
@@ -51,7 +51,7 @@ returns-2 c =
     let a = start .args in
     let f = at-find-line .find-line in
     let d = at-decode .decode in
-    read-found (findFrame a.run a.round a.sender a.receiver (framesFrom (a.text .now) a.from)) (a.text .now) (a.values .now) (f .result) (f .ensures) (omega arith)
+    read-found (findFrame a.run a.round a.sender a.receiver (framesFrom (a.text .now) a.from)) (a.text .now) (a.bytes .now) (f .result) (f .ensures) (omega arith)
     (at-line-end .line-end .result) _ _ (at-line-end .line-end .ensures) (at-values-of .values-of .ensures) (d .ensures)
 
 pub read-frame-spec : {M : Type 1} → statement M
