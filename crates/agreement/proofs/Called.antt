@@ -1,5 +1,5 @@
 -- After any calls, fair or not: what every call keeps holds then. A board that was begun has a good record, and a place with no value yet, or no
--- node, holds FF.
+-- node, holds the mark.
 -- Assumes nothing.
 use Prim.Native.Nat.{ℕ}
 use mathlib.Core.Path.{_≡_, refl, _∙_}

@@ -1,4 +1,4 @@
--- Cells of which the first i hold FF.
+-- Cells of which the first i hold the mark.
 -- Assumes nothing.
 use Prim.Native.Nat.{ℕ, zero, suc, _+_, _-_, _<_}
 use mathlib.Core.Path.{_≡_, refl, sym, ap, _∙_}

@@ -24,7 +24,7 @@ use Rattle.protocol.specs.Records.{runEnded}
 use Rattle.protocol.specs.Rounds.{Board, fill, counted, receive, fillMissing, convert, copyOwn, cleared}
 use Rattle.protocol.specs.Listing.{asSet}
 
--- 01: "A place with no value yet, or no node, holds FF".
+-- 01: "A place with no value yet, or no node, holds FF" (02 g: FFFF).
 pub begun-blank : (w : Width) (n : ℕ) (cells : List ℕ) (x : ℕ) → x < cellCount n → getD (cleared w n cells) x 0 ≡ blank w
 begun-blank w n cells x l =
     List·getD-append (replicate (cellCount n) (blank w)) (drop (cellCount n) cells) 0 x (omega (arith, length-replicate (cellCount n) (blank w)))

@@ -246,6 +246,7 @@ largeTable =
     (alone ++ (decidedPart two 0x105 ++ (decidedPart two 0x105 ++ decidedPart two 0x105)))
     ∷ []
 
+-- The cases, at a width. Lines are quoted in one-byte values; in two bytes 00 stands before each value and decision.
 unfoldable pub caseTable : Width → List Row
 caseTable w =
     -- 1, 2

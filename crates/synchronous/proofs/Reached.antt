@@ -1,4 +1,4 @@
--- Boards that were begun and called: their records stay good, and a place with no value yet, or no node, holds FF.
+-- Boards that were begun and called: their records stay good, and a place with no value yet, or no node, holds the mark.
 -- Assumes nothing.
 use Prim.Native.Nat.{ℕ, zero, suc, _+_, _-_, _≤_, _<_}
 use mathlib.Core.Path.{_≡_, refl, sym, _∙_, ap, subst}
@@ -144,7 +144,7 @@ NoValue b k α =
     ⊎ (((b .rec .decided ≡ false) × Awaits b k (last α))
     ⊎ ((b .rec .decided ≡ true) × (1 < k)))
 
--- 01: "A place with no value yet, or no node, holds FF".
+-- 01: "A place with no value yet, or no node, holds FF" (02 g: FFFF).
 abbrev pub Vacant : Board → Type 0
 Vacant b = (l : b .rec .plan .dealer < b .rec .plan .n) (k : ℕ) (α : Label) → IsLabel (b .rec .plan) l k α → NoValue b k α
     → cellAt (b .rec .plan .n) (b .cells) α ≡ blank (b .width)

@@ -115,7 +115,7 @@ fn append_record(reply: &mut [u8], at: usize, r: Record) -> usize
     append(reply, listed, &numbers)
 }
 
-// Cells, as values.
+// Cells, two bytes each, the high one first.
 fn append_cells(reply: &mut [u8], at: usize, cells: &[Value]) -> usize
     requires { ⌜ at ≤ length (now reply) ⌝ }
     ensures { λ r. ⌜ r ≤ length (now (reply .exit)) ⌝ }

@@ -38,6 +38,7 @@ pub fn values_of(line: &[u8]) -> &[u8]
 pub fn number_at(line: &[u8], k: usize) -> Value
     ensures { λ r. ⌜ r ≡ numberFrom current (now (line .entry)) k ⌝ }
 {
+    // Past the line; below, k + 1 fits.
     if line.len() <= k {
         return 0;
     }

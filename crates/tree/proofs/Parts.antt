@@ -13,7 +13,7 @@ use lib.Seq.{length-take-le, take-at, drop-at, drop-drop, getD-take, getD-drop, 
 use borrow.Author.Tests.{eqb-true, eqb-false, eq-eqb, ne-eqb, ltb-true, ltb-false}
 use Rattle.sets.proofs.Tests.{cases}
 
--- The c bytes from place a on are replaced.
+-- The c cells from place a on are replaced.
 unfoldable pub replace : ℕ → ℕ → List ℕ → List ℕ → List ℕ
 replace a c new l = take a l ++ (new ++ drop (a + c) l)
 

@@ -19,7 +19,7 @@ use Rattle.voting.specs.Worth.{worth, childTable}
 use Rattle.voting.specs.Tables.{at}
 
 module _ (f : ℕ → Option ℕ) (s : ℕ) where
-  -- No board yet: FF everywhere.
+  -- No board yet: the mark everywhere.
   pub table-zero : childTable f s 0 ≡ replicate 8 (blank current)
   unfolding childTable
   table-zero = refl
@@ -69,7 +69,7 @@ table-same f g s (suc k) h =
     (λ e. table-in f s k e ∙ ap (λ t. set t k (worth (f k))) ih ∙ ap (λ o. set (childTable g s k) k (worth o)) (h k (omega arith) e)
     ∙ sym (table-in g s k e))
 
--- A child worth v has v in the table, for v other than FF.
+-- A child worth v has v in the table, for v other than the mark.
 pub same-worth : (o : Option ℕ) (v : ℕ) → v ≢ blank current → same o (some v) ≡ eqb (worth o) v
 unfolding same worth
 same-worth none v ne = sym (ne-eqb (blank current) v (λ e. ne (sym e)))

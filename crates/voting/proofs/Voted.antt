@@ -64,7 +64,7 @@ module _ (p : Plan) (s : ℕ) (values : List ℕ) where
       ))
       (λ e. clash (ap (tolerated (listed p)) (setOf-none f (p .n) (any-false f (p .n) e)) ∙ tolerated-empty (listed p)) (not-t _ t))
 
-  -- Of the children below c: the value that those electing one agree on, FF if there is none.
+  -- Of the children below c: the value that those electing one agree on, the mark if there is none.
   pub record Leading (c found : ℕ) : Type 0 where
     pub agreed : (j : ℕ) → j < c → electing j ≡ true → at values j ≡ found
     pub value : found ≢ blank current → (found < p .span) × (elected p s values found ≡ true)

@@ -1,4 +1,4 @@
--- What a node's children are worth, as a table of bytes by board. A middle layer: `byCell` and `byResolving` of
+-- What a node's children are worth, as a table of values by board. A middle layer: `byCell` and `byResolving` of
 -- protocol/Detection are the definitions.
 use Prim.Native.Nat.{ℕ, zero, suc}
 use mathlib.Core.Bool.{cond}

@@ -295,8 +295,8 @@ impl Keeper {
         })
     }
 
-    /// The values of children as they are compared: as they are, but for a mistake that takes the first with the same low
-    /// byte for each.
+    /// The children's values as they are compared: unchanged, but with `LowByteCompared` each is the first that has its low
+    /// byte.
     fn compared(&self, mut values: Children) -> Children {
         if self.makes(Mistake::LowByteCompared) {
             let low = |value: Option<Value>| value.map(|v| v & 0xFF);

@@ -204,7 +204,7 @@ impl Maker {
         } else {
             make::good(self.width, &mut self.rng)
         };
-        // A block takes more than any frame that is due, and less than the longest misfits.
+        // A block has room for every frame that is due, but not for the longest misfits.
         let frames = sheet.frames.values_mut();
         frames.for_each(|frame| frame.truncate(BLOCK - START));
         let mut recorder = Recorder {

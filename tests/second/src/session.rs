@@ -46,7 +46,7 @@ pub struct Outcome {
     pub told: BTreeSet<Value>,
     /// Those below m in frames of the due length, for each run.
     pub heard: Vec<BTreeSet<Value>>,
-    /// By how many bytes their frames are longer than is due; below 0 if shorter.
+    /// By how many bytes their frames of another length are longer than is due; below 0 if shorter.
     pub misfits: BTreeSet<isize>,
 }
 

@@ -72,7 +72,7 @@ fn decides(outcome: &Outcome, shows: impl Fn(Value) -> bool) -> bool {
     outcome.lines.iter().any(|line| shows(line.decision))
 }
 
-/// Whether faulty boards tell two different values below m that are so.
+/// Whether faulty boards tell two different values below m of which `so` holds.
 fn tells_two(outcome: &Outcome, so: impl Fn(Value, Value) -> bool) -> bool {
     let told: Vec<&Value> = outcome.told.range(..outcome.plan.span).collect();
     let rest = |place: usize| told[place + 1..].iter();

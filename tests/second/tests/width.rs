@@ -377,8 +377,8 @@ fn scripts_are_widened() {
 
 // Made sheets and scripts of two bytes
 
-/// Made sheets agree at both widths. Those of two bytes are of every kind that these have, often, and tell every mistake
-/// about them.
+/// Made sheets agree at both widths. Those of two bytes are of every kind in `wide`, ten times or more, and tell every
+/// mistake about two bytes that a sheet can show.
 #[test]
 fn made_sheets_of_both_widths() {
     let mut met: BTreeMap<&str, usize> = BTreeMap::new();

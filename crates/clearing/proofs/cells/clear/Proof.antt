@@ -1,4 +1,4 @@
--- `clear` meets its contract: the first i cells hold FF.
+-- `clear` meets its contract: the first i cells hold the mark.
 -- Assumes nothing.
 use Prim.Native.Nat.{_-_, _≤_}
 use mathlib.Core.Path.{_≡_, refl, ap, _∙_}
