@@ -1,4 +1,4 @@
--- The laws of the codec, for every width: what is written is read back.
+-- The laws of the codec: what is written is read back, at every width; and where the bytes of values lie.
 -- Assumes nothing.
 use Prim.Native.Nat.{ℕ, zero, suc, _+_, _*_, _/_, _%_, _^_, _≤_, _<_}
 use mathlib.Core.Path.{_≡_, refl, sym, _∙_, ap, ap₂}
@@ -69,7 +69,7 @@ pub decode-past : (w : Width) (k : ℕ) (f : List ℕ) → valueSize w * k < len
 decode-past one k f l = unfold decode in inr (omega arith)
 decode-past two k f l = ⊎-elim (λ e. inr (omega (arith, e .0, decode-even f (e .0)))) inl (parity f)
 
-pairs-at : (f : List ℕ) (i : ℕ) → i < length (pairs f) → getD (pairs f) i 0 ≡ getD f (2 * i) 0 * 256 + getD f (2 * i + 1) 0
+pairs-at : (f : List ℕ) (i : ℕ) → i < length (pairs f) → getD (pairs f) i 0 ≡ getD f (2 * i) 0 * 256 + getD f (suc (2 * i)) 0
 unfolding pairs
 pairs-at [] i l = absurd (omega arith)
 pairs-at (h ∷ []) i l = absurd (omega arith)
@@ -77,15 +77,18 @@ pairs-at (h ∷ (t ∷ f)) zero l = refl
 pairs-at (h ∷ (t ∷ f)) (suc i) l =
     pairs-at f i (omega arith)
     ∙ ap₂ (λ j k. getD (h ∷ (t ∷ f)) j 0 * 256 + getD (h ∷ (t ∷ f)) k 0)
-    (let z : suc (suc (2 * i)) ≡ 2 * suc i = omega arith in z) (let z : suc (suc (2 * i + 1)) ≡ 2 * suc i + 1 = omega arith in z)
+    (let z : suc (suc (2 * i)) ≡ 2 * suc i = omega arith in z) (let z : suc (suc (suc (2 * i))) ≡ suc (2 * suc i) = omega arith in z)
 
--- Value number i is in bytes 2 i and 2 i + 1, the high one first.
-pub decode-fits : (f : List ℕ) (i : ℕ) → i < length (decode two f) → 2 * i + 1 < length f
-decode-fits f i l =
+-- Value number i is the number in its own bytes, which the frame has.
+pub decode-fits : (w : Width) (f : List ℕ) (i : ℕ) → i < length (decode w f) → valueSize w * suc i ≤ length f
+decode-fits one f i l = unfold decode in omega arith
+decode-fits two f i l =
     ⊎-elim (λ e. omega (arith, ap length (e .1), pairs-length f)) (λ e. absurd (let z = ap length e in omega arith)) (parity f)
 
-pub decode-at : (f : List ℕ) (i : ℕ) → i < length (decode two f) → getD (decode two f) i 0 ≡ getD f (2 * i) 0 * 256 + getD f (2 * i + 1) 0
-decode-at f i l =
+pub decode-at : (w : Width) (f : List ℕ) (i : ℕ) → i < length (decode w f) → getD (decode w f) i 0 ≡ numberAt w f (valueSize w * i)
+unfolding numberAt
+decode-at one f i l = unfold decode in ap (λ k. getD f k 0) (let z : i ≡ 1 * i = omega arith in z)
+decode-at two f i l =
     ⊎-elim
     (λ e. ap (λ vs. getD vs i 0) (e .1) ∙ pairs-at f i (let z = ap length (e .1) in omega arith))
     (λ e. absurd (let z = ap length e in omega arith))

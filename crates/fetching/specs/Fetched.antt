@@ -18,11 +18,11 @@ pub record Read : Type 0 where
 
 unfoldable pub readLength : Option (List ℕ) → ℕ → Option ℕ
 readLength none room = none
-readLength (some vs) room = some (min (length vs) room)
+readLength (some f) room = some (min (length f) room)
 
 unfoldable pub readBytes : Option (List ℕ) → List ℕ → List ℕ
 readBytes none buffer = buffer
-readBytes (some vs) buffer = take (length buffer) vs ++ drop (length vs) buffer
+readBytes (some f) buffer = take (length buffer) f ++ drop (length f) buffer
 
 abbrev pub readInto : Option (List ℕ) → List ℕ → Read
-readInto v buffer = record { count = readLength v (length buffer); buffer = readBytes v buffer }
+readInto frame buffer = record { count = readLength frame (length buffer); buffer = readBytes frame buffer }

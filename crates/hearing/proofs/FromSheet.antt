@@ -25,9 +25,9 @@ module _ (v : Option (List ℕ)) (buffer : List ℕ) (room : length buffer ≡ f
   count-is : foundSays found ≡ readLength v (frameRoom current)
   count-is = ap (λ (x : Read). x .count) read ∙ ap (readLength v) room
 
-  values-are : (k : ℕ) → found ≡ Bytes k → some k ≡ readLength v (frameRoom current)
+  bytes-are : (k : ℕ) → found ≡ Bytes k → some k ≡ readLength v (frameRoom current)
   unfolding foundSays
-  values-are k e = ap foundSays (sym e) ∙ count-is
+  bytes-are k e = ap foundSays (sym e) ∙ count-is
 
   pub read-missing : (q : ℕ) (b : Board) → found ≡ Missing → b ≡ handIn q (decoded current v) b
   unfolding handIn decoded foundSays
@@ -36,14 +36,14 @@ module _ (v : Option (List ℕ)) (buffer : List ℕ) (room : length buffer ≡ f
       ap (λ x. handIn q (decoded current x) b) (sym (read-missed v (frameRoom current) (sym none-read)))
 
   pub read-fits : (k : ℕ) → found ≡ Bytes k → k ≤ frameRoom current
-  read-fits k e = let (vs, _, z) = read-frame-is v (frameRoom current) k (sym (values-are k e)) in omega (arith, z)
+  read-fits k e = let (vs, _, z) = read-frame-is v (frameRoom current) k (sym (bytes-are k e)) in omega (arith, z)
 
   pub read-heard : (k q : ℕ) (r : Record) (cells : List ℕ) → found ≡ Bytes k
       → receiving (boardWith r cells) q (take (k - 0) last) .board ≡ handIn q (decoded current v) (boardWith r cells)
   unfolding handIn decoded receiving
   read-heard k q r cells e =
       let b : Board = boardWith r cells in
-      let taken = sym (values-are k e) in
+      let taken = sym (bytes-are k e) in
       let (vs, x, _) = read-frame-is v (frameRoom current) k taken in
       let whole : take (k - 0) last ≡ take (frameRoom current) vs =
       ap₂ take (let z : k - 0 ≡ k = omega arith in z) (ap (λ (y : Read). y .buffer) read) ∙ read-taken v vs buffer (frameRoom current) k x room taken in

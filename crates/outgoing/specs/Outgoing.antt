@@ -37,4 +37,4 @@ pub record Written (k room : ℕ) (buffer frame : List ℕ) : Type 0 where
 pub record Sends (h : Head) (q : ℕ) (cells buffer : List ℕ) : Type 0 where
   pub roomy : Roomy h cells
   pub sender : q < h .plan .n
-  pub blank : buffer ≡ replicate (frameRoom current) 0
+  pub zeros : buffer ≡ replicate (frameRoom current) 0

@@ -37,7 +37,7 @@ in-list (r ∷ rs) zero d e h = refl
 in-list (r ∷ rs) (suc i) d e h = in-list rs i d e (omega arith)
 
 -- A sheet that is accepted.
-module _ (text cells out : List ℕ) (ok : reading current text .answer .number ≡ 0) (room : cellsNeeded ≤ length cells) (wide : outputNeeded current ≤ length out) where
+module _ (text cells out : List ℕ) (ok : reading current text .answer .number ≡ 0) (room : cellsNeeded ≤ length cells) (long : outputNeeded current ≤ length out) where
   abbrev h : Head
   h = reading current text .head
 
@@ -59,7 +59,7 @@ module _ (text cells out : List ℕ) (ok : reading current text .answer .number 
   lines-are : boardLines h (ended .recs) out ≡ printBoards current h (finalBoards current h fs cells) 0 (h .plan .n)
   unfolding keeper setting
   lines-are =
-      lines-played h (finalBoards current h fs cells) (ended .recs) out (few-boards h good) wide
+      lines-played h (finalBoards current h fs cells) (ended .recs) out (few-boards h good) long
       (λ i l f d.
       let kept : keeper (setting current h cells) i ≡ true = rw (lt-ltb i (h .plan .n) l, f, ne-eqb i (h .plan .dealer) d) refl in
       let seven = final-stage h good cells room (sheet-sound current text cells ok room) fs .seven in

@@ -13,6 +13,6 @@ use Rattle.finding.specs.Places.{lineStop}
 pub record Playable (text cells out : List ℕ) (head : Head) (from : ℕ) : Type 0 where
   pub accepted : reading current text .answer .number ≡ 0
   pub roomy : cellsNeeded ≤ length cells
-  pub wide : outputNeeded current ≤ length out
+  pub long : outputNeeded current ≤ length out
   pub heads : head ≡ reading current text .head
   pub begins : from ≡ lineStop text 0 + 1

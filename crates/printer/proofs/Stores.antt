@@ -7,7 +7,7 @@ use native.Mathlib.Numerals.{add-two, add-four, add-six, add-eight}
 use native.Mathlib.Omega.{arith}
 use lib.ListN.{length, drop, set}
 use lib.Seq.{sets, sets-eq}
-use Rattle.codec.specs.Codec.{Width, one, two, valueSize, encode}
+use Rattle.codec.specs.Codec.{Width, one, two, current, valueSize, encode}
 use Rattle.hex.specs.Hex.{hexByte, hexBytes}
 use Rattle.sheet.specs.Playing.{hexValue, printed}
 
@@ -22,8 +22,8 @@ stores-first l a h =
     let z : 0 + length a ≡ length a = omega arith in
     sets-eq a l 0 (omega arith) ∙ ap (λ k. a ++ drop k l) z
 
--- The digits of a value's two bytes.
-pub value-stores : (o : List ℕ) (at v : ℕ) → sets (sets o at (hexByte (v / 256) [])) (at + 2) (hexByte (v % 256) []) ≡ sets o at (hexValue two v [])
+-- The digits of a value's bytes, as the code writes them.
+pub value-stores : (o : List ℕ) (at v : ℕ) → sets (sets o at (hexByte (v / 256) [])) (at + 2) (hexByte (v % 256) []) ≡ sets o at (hexValue current v [])
 unfolding encode hexByte hexBytes hexValue
 value-stores o at v = rw (add-two at) refl
 

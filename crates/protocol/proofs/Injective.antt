@@ -7,7 +7,7 @@ use mathlib.Core.List.{[], _∷_}
 use lib.Dec.{eqb}
 use lib.ListN.{length, getD, drop}
 use borrow.Author.Tests.{ne-eqb}
-use Rattle.codec.specs.Codec.{two, encode}
+use Rattle.codec.specs.Codec.{current, encode}
 use Rattle.refusals.specs.Outcome.{Outcome, taken, refusal}
 use Rattle.refusals.proofs.Outcomes.{refusal-number}
 use Rattle.refusals.proofs.Injective.{why, why-refusal}
@@ -28,7 +28,7 @@ injective : {A : Type 0} (says : A → Outcome) (back : Outcome → A) → ((a :
 injective says back h a b e = sym (h a) ∙ ap back e ∙ h b
 
 -- The dealer's answer says the bytes of its value, the high one first.
-pub dealt-encoded : (v : ℕ) → dealtSays (D.Frame (v / 256) (v % 256)) ≡ taken (encode two (v ∷ []))
+pub dealt-encoded : (v : ℕ) → dealtSays (D.Frame (v / 256) (v % 256)) ≡ taken (encode current (v ∷ []))
 unfolding dealtSays encode
 dealt-encoded v = refl
 

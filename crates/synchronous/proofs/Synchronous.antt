@@ -9,7 +9,7 @@ use mathlib.Core.Option.{Option, some, none}
 use native.Mathlib.Omega.{arith}
 use native.Mathlib.Nat.{zero-mul}
 use lib.Dec.{eqb, ltb}
-use lib.ListN.{length}
+use lib.ListN.{length, List·getD-eq-default}
 use borrow.Author.Tests.{eqb-false, ne-eqb, ltb-true, ltb-false, lt-ltb, le-ltb, eqb-true}
 use Rattle.sets.specs.Sets.{member}
 use Rattle.sets.proofs.Tests.{cases, and-l, and-r, not-t}
@@ -27,7 +27,7 @@ use Rattle.protocol.specs.declared.records.Record.{Record}
 use Rattle.protocol.specs.Records.{standingAt, runEnded, withMarks}
 use Rattle.protocol.specs.Rounds.{boardOf, onto, Board, gather, nextRound, convert, close, cleared}
 use Rattle.protocol.specs.Calls.{isTaken, judgeBoard, judgeBeginning, freshRecord, beginning, taking, closing}
-use Rattle.sets.proofs.Tabulated.{tabulate-at}
+use Rattle.sets.proofs.Tabulated.{tabulate-length, tabulate-at}
 use Rattle.protocol.specs.Session.{Adversary, Setting, Boards, nobody, boardAt, begun, hears, handIn, hearAll, session, at, takeAll, keeper, Sound}
 use Rattle.protocol.proofs.Judgement.{Good, Open, open-taken, board-taken, cells-taken, taken-is}
 use Rattle.protocol.proofs.Taken.{closing-taken, taking-width, closing-width}
@@ -55,6 +55,14 @@ module _ (s : Setting) (a : Adversary) where
       let f : ℕ → Board = λ i. closing (hearAll s a (session s a j) i j (s .plan .n)) .board in
       tabulate-at f (s .plan .n) i nobody l
       ∙ ap (λ b. closing b .board) (hear-all (session s a j) i j (s .plan .n))
+
+  -- Past the boards there is none.
+  pub at-past : (j i : ℕ) → s .plan .n ≤ i → at s a j i ≡ nobody
+  unfolding at session boardAt
+  at-past zero i l = List·getD-eq-default _ nobody (omega (arith, tabulate-length (begun s) 0 (s .plan .n)))
+  at-past (suc j) i l =
+      let f : ℕ → Board = λ i. closing (hearAll s a (session s a j) i j (s .plan .n)) .board in
+      List·getD-eq-default _ nobody (omega (arith, tabulate-length f 0 (s .plan .n)))
 
 -- What handing in and closing keep holds all along the session.
 module _ (P : Board → Type 0)

@@ -2,4 +2,5 @@ pub mod Splitting
 pub mod Readings
 pub mod Prints
 pub mod Plays
+pub mod LentCells
 pub mod SevenWide

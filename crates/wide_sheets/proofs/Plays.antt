@@ -87,11 +87,11 @@ module _ (h : Head) (m : h .plan .span ≤ 255) (word : h .word < 256) (fs : Lis
   unfolding setting
   narrow = record { width = refl; span = m }
 
-  board-wide : (i : ℕ) → i < h .plan .n → boardAt wideEnding i ≡ wideBoard (boardAt ending i)
+  board-wide : (i : ℕ) → boardAt wideEnding i ≡ wideBoard (boardAt ending i)
   unfolding finalBoards at setting
-  board-wide i l =
+  board-wide i =
       ap₂ (λ s a. at s a (steps (h .plan)) i) setting-wide adversary-wide
-      ∙ session-same (setting one h cells) narrow (sheetAdversary one h fs) (steps (h .plan)) i l
+      ∙ session-same (setting one h cells) narrow (sheetAdversary one h fs) (steps (h .plan)) i
 
   decision-small : (i : ℕ) → i < h .plan .n → boardAt ending i .rec .decision < 256
   unfolding finalBoards at setting
@@ -106,7 +106,7 @@ module _ (h : Head) (m : h .plan .span ≤ 255) (word : h .word < 256) (fs : Lis
       (λ x. rw x (printed-wide i (h .word) 0 0 rest word))
       (λ x. let b = boardAt ending i in
       let list = asSet (b .rec .list) in
-      rw x (ap (λ (b : Board). printed two i (b .rec .decision) (asSet (b .rec .list)) (heldAt (listed (h .plan)) (asSet (b .rec .list))) (widePrinted rest)) (board-wide i l)
+      rw x (ap (λ (b : Board). printed two i (b .rec .decision) (asSet (b .rec .list)) (heldAt (listed (h .plan)) (asSet (b .rec .list))) (widePrinted rest)) (board-wide i)
       ∙ printed-wide i (b .rec .decision) list (heldAt (listed (h .plan)) list) rest (decision-small i l)))))
 
   board-lines-wide : (i k : ℕ) → i + k ≤ h .plan .n → printBoards two h wideEnding i k ≡ widePrinted (printBoards one h ending i k)
@@ -115,13 +115,13 @@ module _ (h : Head) (m : h .plan .span ≤ 255) (word : h .word < 256) (fs : Lis
   board-lines-wide i (suc k) l =
       ap (boardLine two h wideEnding i) (board-lines-wide (suc i) k (omega arith)) ∙ board-line-wide i (printBoards one h ending (suc i) k) (omega arith)
 
-  cells-wide : (k : ℕ) → k ≤ h .plan .n → finalCells h wideEnding k (map wide cells) ≡ map wide (finalCells h ending k cells)
+  cells-wide : (k : ℕ) → finalCells h wideEnding k (map wide cells) ≡ map wide (finalCells h ending k cells)
   unfolding finalCells
-  cells-wide zero l = refl
-  cells-wide (suc k) l =
-      let ih = cells-wide k (omega arith) in
+  cells-wide zero = refl
+  cells-wide (suc k) =
+      let ih = cells-wide k in
       let rest = finalCells h ending k cells in
-      let own : boardAt wideEnding k .cells ≡ map wide (boardAt ending k .cells) = unfold wideBoard in ap (λ (b : Board). b .cells) (board-wide k (omega arith)) in
+      let own : boardAt wideEnding k .cells ≡ map wide (boardAt ending k .cells) = unfold wideBoard in ap (λ (b : Board). b .cells) (board-wide k) in
       cases (member k (h .faulty) || eqb k (h .plan .dealer))
       (λ e. rw e ih)
       (λ e. rw e (ap₂ (replacePart (h .plan .n) k) own ih ∙ replace-wide (h .plan .n) k (boardAt ending k .cells) rest))
@@ -134,7 +134,7 @@ module _ (h : Head) (m : h .plan .span ≤ 255) (word : h .word < 256) (fs : Lis
       board-lines-wide 0 (h .plan .n) (omega arith) ∙ sym (ap widePrinted (take-append-seam text (drop (length text) out))) in
       λ j. record {
         answer = taken (length (text-same j) ∷ []);
-        cells = cells-wide (h .plan .n) (omega arith) j;
+        cells = cells-wide (h .plan .n) j;
         out = text-same j ++ drop (length (text-same j)) out′;
       }
 

@@ -5,11 +5,11 @@ use mathlib.Core.Path.{_≡_}
 use mathlib.Core.Logic.{_≢_}
 use mathlib.Core.List.{List, map}
 use lib.ListN.{length}
-use Rattle.codec.specs.Codec.{one, two}
+use Rattle.codec.specs.Codec.{Width, one, two}
 use Rattle.refusals.specs.Outcome.{refused}
 use Rattle.protocol.specs.Limits.{sheetMost, outputNeeded}
 use Rattle.sheet.specs.Sheet.{wrongAt, reading}
-use Rattle.sheet.specs.Playing.{refusedPlay, playing, benchPrints}
+use Rattle.sheet.specs.Playing.{Play, refusedPlay, playing, benchPrints}
 use Rattle.widening.specs.Widening.{wide}
 use Rattle.wide_sheets.specs.WideText.{wideText, widePrinted, widePlay}
 
@@ -37,3 +37,12 @@ pub record WideSheet (text cells out out′ : List ℕ) : Type 0 where
 
 abbrev pub SheetsSame : Type 0
 SheetsSame = (text cells out out′ : List ℕ) → WideSheet text cells out out′
+
+-- Two plays with the same answer, so the same number and line, and the same output.
+pub record SameLines (r r′ : Play) : Type 0 where
+  pub answer : r .answer ≡ r′ .answer
+  pub out : r .out ≡ r′ .out
+
+-- What lent cells held before plays no part in these, at any width: so `SheetsSame` says them of every lent buffer, widened or not.
+abbrev pub LentCells : Type 0
+LentCells = (w : Width) (text cells cells′ out : List ℕ) → length cells ≡ length cells′ → SameLines (playing w text cells out) (playing w text cells′ out)

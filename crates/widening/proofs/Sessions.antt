@@ -6,16 +6,18 @@ use mathlib.Core.Bool.{cond}
 use mathlib.Core.List.{List, [], _∷_}
 use mathlib.Core.Option.{Option, some, none}
 use native.Mathlib.Omega.{arith}
-use lib.Dec.{eqb}
+use lib.Dec.{eqb, ltb}
+use borrow.Author.Tests.{ltb-true, ltb-false}
 use Rattle.sets.specs.Sets.{member}
+use Rattle.sets.proofs.Tests.{cases}
 use Rattle.plan.specs.declared.plan.Plan.{Plan}
 use Rattle.protocol.specs.Rounds.{Board}
 use Rattle.protocol.specs.Calls.{Result, taking, frameOf, closing}
-use Rattle.protocol.specs.Session.{Adversary, Setting, hears, handIn, takeAll, at}
+use Rattle.protocol.specs.Session.{Adversary, Setting, nobody, hears, handIn, takeAll, at}
 use Rattle.protocol.proofs.Taken.{taking-width}
-use Rattle.synchronous.proofs.Synchronous.{told, at-start, at-next, all-keeps, at-keeps}
+use Rattle.synchronous.proofs.Synchronous.{told, at-start, at-next, at-past, all-keeps, at-keeps}
 use Rattle.agreement.specs.Lists.{closes, leaves}
-use Rattle.widening.specs.Widening.{wideBoard, wideSetting, wideResult}
+use Rattle.widening.specs.Widening.{wideRecord, wideBoard, wideSetting, wideResult}
 use Rattle.widening.specs.Claims.{Narrow, NarrowSetting, SessionSame}
 use Rattle.widening.proofs.Calls.{taking-wide, closing-wide, frame-wide}
 use Rattle.widening.proofs.Lists.{taking-plan, leaves-narrow, begun-wide, begun-narrow}
@@ -70,5 +72,14 @@ module _ (s : Setting) (n : NarrowSetting s) (a : Adversary) where
       ∙ ap (λ (x : Result). x .board) (closing-wide heard (all-narrow (told s a i j) (at s a j i) (s .plan .n) (narrow j i l)))
       ∙ ap wideBoard (sym (at-next s a i j l))
 
+-- There is no board past the last.
+nobody-wide : wideBoard nobody ≡ nobody
+unfolding wideBoard wideRecord nobody
+nobody-wide = refl
+
 pub session-same : SessionSame
-session-same s n a j i l = at-wide s n a j i l
+session-same s n a j i =
+    cases (ltb i (s .plan .n))
+    (λ e. at-wide s n a j i (ltb-true i (s .plan .n) e))
+    (λ e. let past = ltb-false i (s .plan .n) e in
+    at-past (wideSetting s) a j i (unfold wideSetting in past) ∙ sym nobody-wide ∙ ap wideBoard (sym (at-past s a j i past)))

@@ -65,4 +65,4 @@ ListsSame = (s : Setting) → NarrowSetting s → (calls calls′ : List Call) �
 
 -- The synchronous session, whatever faulty boards send.
 abbrev pub SessionSame : Type 0
-SessionSame = (s : Setting) → NarrowSetting s → (a : Adversary) (j i : ℕ) → i < s .plan .n → at (wideSetting s) a j i ≡ wideBoard (at s a j i)
+SessionSame = (s : Setting) → NarrowSetting s → (a : Adversary) (j i : ℕ) → at (wideSetting s) a j i ≡ wideBoard (at s a j i)

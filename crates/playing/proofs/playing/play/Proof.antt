@@ -43,14 +43,14 @@ play-sheet-requires c κs =
     let told = c .before .before in
     let read = told .before .before .before in
     let roomy = read .before in
-    let wide = roomy .before in
-    let short = wide .before in
+    let long = roomy .before in
+    let short = long .before in
     let at-shared-slice-known = short .before .before .before in
     let start = at-shared-slice-known .before in
     let a = start .args in
     let d = read .read-sheet in
     let e = judged-accepted (d .result .judged) (a.text .now) (d .ensures .judges .says) (ap verdict (sym (told .enum-told .given .1))) in
-    record { accepted = e; roomy = roomy .if3 .left; wide = wide .if2 .left; heads = d .ensures .gives e; begins = d .ensures .begins }
+    record { accepted = e; roomy = roomy .if3 .left; long = long .if2 .left; heads = d .ensures .gives e; begins = d .ensures .begins }
 
 returns-4 : tie.Need-returns-4
 unfolding playedSays verdict wrongAt refusedPlay
@@ -58,15 +58,15 @@ returns-4 c =
     let told = c .before in
     let read = told .before .before .before in
     let roomy = read .before in
-    let wide = roomy .before in
-    let short = wide .before in
+    let long = roomy .before in
+    let short = long .before in
     let at-shared-slice-known = short .before .before .before in
     let start = at-shared-slice-known .before in
     let a = start .args in
     let d = read .read-sheet in
     let why = told .verdict .given .0 .0 in
     let o = judged-refused (d .result .judged) (a.text .now) (d .ensures .judges .says) (refusal why) (ap verdict (sym (told .verdict .given .1))) (refusal-number why) in
-    sheet-refused (a.text .now) (a.cells .now) (a.out .now) (short .if1 .left) (wide .if2 .left) (roomy .if3 .left)
+    sheet-refused (a.text .now) (a.cells .now) (a.out .now) (short .if1 .left) (long .if2 .left) (roomy .if3 .left)
     (wrongAt (d .result .judged .line) (refusal why)) o (refusal-number why)
 
 returns-5 : tie.Need-returns-5
@@ -77,14 +77,14 @@ returns-5 c =
     let told = played .before .before .before in
     let read = told .before .before .before in
     let roomy = read .before in
-    let wide = roomy .before in
-    let short = wide .before in
+    let long = roomy .before in
+    let short = long .before in
     let at-shared-slice-known = short .before .before .before in
     let start = at-shared-slice-known .before in
     let a = start .args in
     let j = read .read-sheet in
     let ok = judged-accepted (j .result .judged) (a.text .now) (j .ensures .judges .says) (ap verdict (sym (told .enum-told .given .1))) in
-    played .play-sheet .ensures ∙ sheet-accepted (a.text .now) (a.cells .now) (a.out .now) (short .if1 .left) (wide .if2 .left) (roomy .if3 .left) ok
+    played .play-sheet .ensures ∙ sheet-accepted (a.text .now) (a.cells .now) (a.out .now) (short .if1 .left) (long .if2 .left) (roomy .if3 .left) ok
 
 pub play-spec : {M : Type 1} → statement M
 play-spec =

@@ -27,7 +27,7 @@ play-rounds-requires c κs =
     let a = s .args in
     subst (λ x. Ready x (a.cells .now) (a.text .now) a.from) (sym (s .pre .heads))
     (subst (λ k. Ready (reading current (a.text .now) .head) (a.cells .now) (a.text .now) k) (sym (s .pre .begins))
-    (head-ready (a.text .now) (a.cells .now) (a.out .now) (s .pre .accepted) (s .pre .roomy) (s .pre .wide)))
+    (head-ready (a.text .now) (a.cells .now) (a.out .now) (s .pre .accepted) (s .pre .roomy) (s .pre .long)))
 
 returns : tie.Need-returns
 returns c =
@@ -48,7 +48,7 @@ returns c =
     let es : st ≡ playSteps (reading current t .head) (reading current t .frames) (steps (reading current t .head .plan)) start =
     g .ensures ∙ ap₂ (λ x y. playSteps x y (steps (x .plan)) start) eh ef in
     ap (λ (o : Output). record { answer = taken (o .count ∷ []); cells = st .cells; out = o .out }) (d .ensures)
-    ∙ sheet-played t (a.cells .now) (a.out .now) (s .pre .accepted) (s .pre .roomy) (s .pre .wide) st _ es (ap (λ x. boardLines x (st .recs) (a.out .now)) eh)
+    ∙ sheet-played t (a.cells .now) (a.out .now) (s .pre .accepted) (s .pre .roomy) (s .pre .long) st _ es (ap (λ x. boardLines x (st .recs) (a.out .now)) eh)
 
 pub play-sheet-spec : {M : Type 1} → statement M
 play-sheet-spec = tie.close (tie.spec play-rounds-requires (λ c κs. search needs) (λ c. search needs) (λ c. search needs) returns)

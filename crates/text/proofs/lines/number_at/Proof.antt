@@ -5,17 +5,20 @@ use mathlib.Core.Path.{_∙_, ap, ap₂}
 use native.Mathlib.Omega.{arith}
 use native.Mathlib.Numerals.{add-one}
 use borrow.Author.Needs.{needs}
+use Rattle.codec.specs.Codec.{numberAt}
 use Rattle.hex.specs.Bytes.{byteAt}
 use Rattle.hex.proofs.Digits.{byte-short}
 use Rattle.text.proofs.lines.number_at.Statement.{statement}
 use Rattle.text.proofs.lines.number_at.Tie as tie
 
 returns : tie.Need-returns
+unfolding numberAt
 returns c =
     let a = c .before .before .args in
     omega (arith, byte-short (a.line .now) a.k (omega arith), byte-short (a.line .now) (suc a.k) (omega arith))
 
 returns-2 : tie.Need-returns-2
+unfolding numberAt
 returns-2 c =
     let second = c .before in
     let first = second .before in
