@@ -50,7 +50,7 @@ resultOn p x = record { answer = x .answer; board = boardOn p (x .board) }
 abbrev pub begunOn : Plan → Result → Result
 begunOn p x = record { answer = x .answer; board = cond (isTaken (x .answer)) (boardOn p (x .board)) (x .board) }
 
--- Every call on the one plan is the call on the other, the plan itself apart: the same answer, the same record, the same bytes.
+-- Every call on the one plan is the call on the other, the plan itself apart: the same answer, record, cells and bytes.
 pub record SameCalls (p q : Plan) : Type 0 where
   pub beginning : (w : Width) (i : ℕ) (cells : List ℕ) → beginning w q i cells ≡ begunOn q (beginning w p i cells)
   pub dealing : (w : Width) (v : ℕ) → dealing w q v ≡ dealing w p v

@@ -41,7 +41,7 @@ unfoldable pub decode : Width → List ℕ → List ℕ
 decode one f = f
 decode two f = cond (eqb (length f % 2) 0) (pairs f) []
 
--- The number that stands at place i of the bytes of a head.
+-- The number that stands at place i of the bytes of a head. 02 g: "frames, defaults, spans and dealer's values are written high byte first".
 unfoldable pub numberAt : Width → List ℕ → ℕ → ℕ
 numberAt one bytes i = getD bytes i 0
 numberAt two bytes i = getD bytes i 0 * 256 + getD bytes (suc i) 0

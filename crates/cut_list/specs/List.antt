@@ -1,4 +1,5 @@
--- A fair list of calls on a cut tree: after run 1 the roots of the two boards outside F are unequal, so the bound of demand 3 speaks of it.
+-- A fair list of calls on a cut tree, in one-byte values: after run 1 the roots of the two boards outside F are unequal, so the bound of
+-- demand 3 speaks of it.
 use Prim.Native.Nat.{ℕ}
 use mathlib.Core.Bool.{cond}
 use mathlib.Core.List.{List, [], _∷_}
@@ -9,8 +10,8 @@ use Rattle.plan.specs.Calls.{planOn}
 use Rattle.protocol.specs.Session.{Setting}
 use Rattle.agreement.specs.Lists.{Call, receives, sends, closes, decides}
 
--- n = 6, the sets {1, 3, 4, 5} and {0}, dealer 1, values 0 and 1, depth 4. F = {1, 3, 4, 5} has the dealer; boards 0 and 2 have records.
--- Board 2 lent three cells too many.
+-- n = 6, the sets {1, 3, 4, 5} and {0}, dealer 1, the values 0 and 1 in one byte, depth 4. F = {1, 3, 4, 5} has the dealer; boards 0 and 2
+-- have records. Board 2 lent three cells too many.
 unfoldable pub cutSetting : Setting
 cutSetting = record {
   width = one;

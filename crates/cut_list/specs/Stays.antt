@@ -1,5 +1,5 @@
--- A fair list of calls on a cut tree: the dealer lies, and the two boards outside F hold one root after run 1; in run 2 other boards of F lie,
--- and one of the two closes it.
+-- A fair list of calls on a cut tree, in one-byte values: the dealer lies, and the two boards outside F hold one root after run 1; in run 2
+-- other boards of F lie, and one of the two closes it.
 use Prim.Native.Nat.{ℕ}
 use mathlib.Core.Bool.{cond}
 use mathlib.Core.List.{List, [], _∷_}
@@ -10,7 +10,7 @@ use Rattle.plan.specs.Calls.{planOn}
 use Rattle.protocol.specs.Session.{Setting}
 use Rattle.agreement.specs.Lists.{Call, receives, sends, closes}
 
--- n = 5, the set {0, 1, 2, 3}, dealer 0, values below 16, depth 4. F = {0, 1, 2} has the dealer; boards 3 and 4 have records.
+-- n = 5, the set {0, 1, 2, 3}, dealer 0, values below 16 in one byte, depth 4. F = {0, 1, 2} has the dealer; boards 3 and 4 have records.
 unfoldable pub staysSetting : Setting
 staysSetting = record {
   width = one;

@@ -22,7 +22,8 @@ emptyHead w n m x d b v f = n ∷ (encode w (m ∷ x ∷ []) ++ (d ∷ b ∷ (en
 abbrev pub zeroHead : Width → ℕ → ℕ → ℕ → ℕ → ℕ → ℕ → ℕ → List ℕ
 zeroHead w n m x d b v f = n ∷ (encode w (m ∷ x ∷ []) ++ (d ∷ b ∷ (encode w (v ∷ []) ++ (1 ∷ 0 ∷ f ∷ []))))
 
--- Two sheets with these heads, alike in all other lines and not too long, are played the same: the answer, every byte of cells and output.
+-- Two sheets with these heads, alike in all other lines and not too long, are played the same: the answer, every byte of the output and every
+-- cell.
 abbrev pub SameSheets : Type 0
 SameSheets =
     (w : Width) (n m x d b v f : ℕ) (ls : List Line) (empty zero cells out : List ℕ)

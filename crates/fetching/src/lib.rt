@@ -1,2 +1,2 @@
-// Reading a frame of a sheet: its line is found, and its values are read.
+// Reading a frame of a sheet: its line is found, and its bytes are read.
 pub mod fetching;

@@ -15,6 +15,6 @@ lineStop text at = first (λ i. eqb (getD text i 0) 10) (length text - at) at
 unfoldable pub lineAt : List ℕ → ℕ → List ℕ
 lineAt text at = take (lineStop text at - at) (drop at text)
 
--- The values of the frame line at `at`, if a line begins there.
+-- The bytes of the values of the frame line at `at`, if a line begins there.
 unfoldable pub frameAt : List ℕ → ℕ → Option (List ℕ)
 frameAt text at = let vs = lineFrame (lineAt text at) .values in cond (ltb at (length text)) (some vs) none

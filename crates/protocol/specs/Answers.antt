@@ -12,12 +12,12 @@ use Rattle.protocol.specs.declared.answers.Decision.the-variants as N
 use Rattle.protocol.specs.declared.answers.Played.{Played}
 use Rattle.protocol.specs.declared.answers.Played.the-variants as P
 
--- The dealer's frame: its two bytes, the high one first.
+-- The dealer's frame: its two bytes. 02 g: "written high byte first".
 unfoldable pub dealtSays : Dealt → Outcome
 dealtSays (D.Frame h l) = taken (h ∷ l ∷ [])
 dealtSays (D.Refused why) = refusal why
 
--- Writing a frame: its length.
+-- Writing a frame: its length in bytes.
 unfoldable pub sentSays : Sent → Outcome
 sentSays (S.Length k) = taken (k ∷ [])
 sentSays (S.Refused why) = refusal why

@@ -1,4 +1,4 @@
--- The six calls of a board: from all inputs to the answer, the record and every lent byte.
+-- The six calls of a board: from all inputs to the answer, the record, every lent cell and every lent byte.
 use Prim.Native.Nat.{ℕ}
 use mathlib.Core.Bool.{Bool, true, false, not, _&&_, _||_, cond}
 use mathlib.Core.List.{List, [], _∷_, _++_}

@@ -23,7 +23,7 @@ pub struct Received {
     pub rec: Record,
 }
 
-// Writing a frame: its length.
+// Writing a frame: its length in bytes.
 pub enum Sent {
     Length(usize),
     Refused(Refusal),

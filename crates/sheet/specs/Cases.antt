@@ -75,7 +75,7 @@ unfoldable pub nodeCount : Plan → ℕ → ℕ
 nodeCount p zero = 0
 nodeCount p (suc k) = nodeCount p k + length (nodes p 0 (suc k))
 
--- Lent buffers with a mark in every byte, to see what is touched.
+-- Lent cells and a lent output, each filled with one number, to see what is touched.
 unfoldable pub lentCells : List ℕ
 lentCells = replicate cellsNeeded 7
 
@@ -155,14 +155,15 @@ head9 w = fourHead w 0x30 0x30 0x38
 unfoldable pub bareHead : Width → ℕ → ℕ → List ℕ
 bareHead w n f = headLine w n 0x30 0x30 (0x30 ∷ 0x30 ∷ []) f
 
--- Heads with four boards and the default 0: the five sets 08, 01, 01, 02, 04; and the two sets 00 and 09.
+-- A head with four boards, the default 0 and the five sets 08, 01, 01, 02, 04.
 unfoldable pub laterHead : Width → ℕ → List ℕ
 laterHead w f = headLine w 0x34 0x30 0x30 (0x30 ∷ 0x35 ∷ 0x30 ∷ 0x38 ∷ 0x30 ∷ 0x31 ∷ 0x30 ∷ 0x31 ∷ 0x30 ∷ 0x32 ∷ 0x30 ∷ 0x34 ∷ []) f
 
--- Five boards, the sets 03, 05, 09 and F = 03.
+-- A head with five boards, the default 0, the sets 03, 05, 09 and F = 03.
 unfoldable pub fiveHead : Width → List ℕ
 fiveHead w = headLine w 0x35 0x30 0x30 (0x30 ∷ 0x33 ∷ 0x30 ∷ 0x33 ∷ 0x30 ∷ 0x35 ∷ 0x30 ∷ 0x39 ∷ []) 0x33
 
+-- A head with four boards, the default 0 and the two sets 00 and 09.
 unfoldable pub pairHead : Width → ℕ → List ℕ
 pairHead w f = headLine w 0x34 0x30 0x30 (0x30 ∷ 0x32 ∷ 0x30 ∷ 0x30 ∷ 0x30 ∷ 0x39 ∷ []) f
 
@@ -233,14 +234,16 @@ sevenLines w s = printedLine w 0x31 0x37 s ++ (printedLine w 0x32 0x37 s ++ prin
 unfoldable pub sevenParts : Width → List ℕ
 sevenParts w = alone ++ (decidedPart w 7 ++ (decidedPart w 7 ++ decidedPart w 7))
 
--- 02 g, values above 255, in two bytes: the span 0110, so that 010F is a value and 0110 counts as the default, 0107; low byte first it would not. The
--- dealer tells 0105, 0105 and 0001: all decide 0105.
+-- 02 g: values above 255, in two bytes.
 unfoldable pub largeTable : List Row
 largeTable =
+    -- the span 0110: 010F is a value, and 0110 counts as the default, 0107; the span FFFF: FFFE is a value, and FFFF counts as the default, 0
     stored 0x110 0x107 noEntries (0x10F ∷ []) 0x10F
     ∷ stored 0x110 0x107 noEntries (0x110 ∷ []) 0x107
     ∷ stored 0xFFFF 0 noEntries (0xFFFE ∷ []) 0xFFFE
     ∷ stored 0xFFFF 0 noEntries (0xFFFF ∷ []) 0
+    -- the dealer tells 0105, 0105 and 0001: all decide 0105. A codec that is low byte first throughout is told by the parts of this row, which
+    -- would hold 0501: it would print the same, and each row above writes and reads by one codec
     ∷ sheet (largeHead ++ (largeLine 0x31 0x31 0x35 ++ (largeLine 0x32 0x31 0x35 ++ largeLine 0x33 0x30 0x31)))
     (largePrinted 0x31 ++ (largePrinted 0x32 ++ largePrinted 0x33))
     (alone ++ (decidedPart two 0x105 ++ (decidedPart two 0x105 ++ decidedPart two 0x105)))

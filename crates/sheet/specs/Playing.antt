@@ -1,4 +1,4 @@
--- Playing a sheet: every byte of output and cells.
+-- Playing a sheet: every byte of the output and every cell.
 use Prim.Native.Nat.{ℕ, zero, suc, _+_, _*_, _/_, _%_}
 use mathlib.Core.Bool.{_&&_, _||_, cond}
 use mathlib.Core.List.{List, [], _∷_, _++_}

@@ -47,10 +47,11 @@ pub record WideCalls (b : Board) : Type 0 where
 abbrev pub CallsSame : Type 0
 CallsSame = (b : Board) → Narrow b → WideCalls b
 
--- Beginning a board, on any plan; and the dealer's frame, with 00 before its value.
+-- Beginning a board, on any plan: the same answer, and the board widened.
 abbrev pub BeginningSame : Type 0
 BeginningSame = (p : Plan) (i : ℕ) (cells : List ℕ) → beginning two p i (map wide cells) ≡ wideResult (beginning one p i cells)
 
+-- The dealer's frame, with a span of at most 255: the same number, or 00 before its value.
 abbrev pub DealingSame : Type 0
 DealingSame = (p : Plan) (v : ℕ) → p .span ≤ 255 → dealing two p v ≡ wideFrameIn (dealing one p v)
 

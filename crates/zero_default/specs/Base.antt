@@ -1,5 +1,6 @@
 -- The base: what stood before 02 b, which is 01 with 02 a (an empty list is admitted). Here only what 02 b says otherwise, with 01's
--- numbers written out: 0 for the default, no number 26, a head without a default. Its heads have one byte a value, as 01's. Only `Zero` and its proof use these.
+-- numbers written out: 0 for the default, no number 26, a head without a default. Its heads have one byte a value, as 01's. Only `Zero` and
+-- its proof use these.
 use Prim.Native.Nat.{ℕ, _+_, _-_}
 use mathlib.Core.Bool.{not, _&&_, _||_, cond}
 use mathlib.Core.List.{List, [], _∷_}

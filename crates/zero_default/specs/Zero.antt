@@ -39,7 +39,8 @@ pub record ZeroPlanned (n : ℕ) (sets : List ℕ) (s : Settings) : Type 0 where
   pub answer : (count : ℕ) → planning n count sets s ≡ basePlanning n count sets s
   pub plan : planned n sets s ≡ basePlanned n sets s
 
--- A head of one-byte values with 00 right after the span.
+-- A head of one-byte values, as the base's are, with 00 right after the span. Heads in two bytes follow through `SheetsSame` (wide_sheets): the
+-- head with 00 before span, default and dealer's value is judged alike, but that the longer sheet may meet 17 or 20.
 pub record ZeroHead (n m : ℕ) (rest : List ℕ) : Type 0 where
   pub judges : judgeHead one (n ∷ m ∷ 0 ∷ rest) ≡ baseJudgeHead (n ∷ m ∷ rest)
   pub names : headOf one (n ∷ m ∷ 0 ∷ rest) ≡ baseHead (n ∷ m ∷ rest)
