@@ -56,13 +56,15 @@ module _ (s : Setting) (a : Adversary) where
       tabulate-at f (s .plan .n) i nobody l
       ∙ ap (λ b. closing b .board) (hear-all (session s a j) i j (s .plan .n))
 
+  session-length : (j : ℕ) → length (session s a j) ≡ s .plan .n
+  unfolding session
+  session-length zero = tabulate-length (begun s) 0 (s .plan .n)
+  session-length (suc j) = tabulate-length _ 0 (s .plan .n)
+
   -- Past the boards there is none.
   pub at-past : (j i : ℕ) → s .plan .n ≤ i → at s a j i ≡ nobody
-  unfolding at session boardAt
-  at-past zero i l = List·getD-eq-default _ nobody (omega (arith, tabulate-length (begun s) 0 (s .plan .n)))
-  at-past (suc j) i l =
-      let f : ℕ → Board = λ i. closing (hearAll s a (session s a j) i j (s .plan .n)) .board in
-      List·getD-eq-default _ nobody (omega (arith, tabulate-length f 0 (s .plan .n)))
+  unfolding at boardAt
+  at-past j i l = List·getD-eq-default (session s a j) nobody {n = i} (omega (arith, session-length j))
 
 -- What handing in and closing keep holds all along the session.
 module _ (P : Board → Type 0)

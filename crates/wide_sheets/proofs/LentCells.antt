@@ -2,13 +2,13 @@
 -- Assumes nothing.
 use Prim.Native.Nat.{ℕ, zero, suc, _+_, _≤_, _<_}
 use mathlib.Core.Path.{_≡_, refl, sym, _∙_, ap, ap₂}
-use mathlib.Core.Bool.{true, not, _&&_, cond}
+use mathlib.Core.Bool.{true}
 use mathlib.Core.List.{List, [], _∷_, _++_}
 use mathlib.Core.Option.{Option, some}
 use native.Mathlib.Omega.{arith}
 use lib.Dec.{eqb, ltb}
 use lib.ListN.{length, replicate, drop, drop-of-length-le}
-use borrow.Author.Tests.{lt-ltb, le-ltb, eqb-true, ltb-false}
+use borrow.Author.Tests.{lt-ltb, eqb-true, ltb-false}
 use Rattle.codec.specs.Codec.{Width, blank}
 use Rattle.sets.specs.Sets.{member}
 use Rattle.sets.specs.Structure.{heldAt}
@@ -21,7 +21,7 @@ use Rattle.protocol.specs.Limits.{sheetMost, outputNeeded, cellsNeeded}
 use Rattle.protocol.specs.Listing.{asSet}
 use Rattle.protocol.specs.Rounds.{boardOf, Board, cleared}
 use Rattle.protocol.specs.Calls.{freshRecord, frameOf, closing}
-use Rattle.protocol.specs.Session.{Adversary, Setting, boardAt, hears, handIn, takeAll, at, keeper, Sound}
+use Rattle.protocol.specs.Session.{Adversary, Setting, hears, handIn, takeAll, at, keeper, Sound}
 use Rattle.synchronous.proofs.Synchronous.{told, at-start, at-next, keeper-facts, begun-shape}
 use Rattle.sheet.specs.declared.head.Head.{Head}
 use Rattle.sheet.specs.Sheet.{Frame, reading}
@@ -38,7 +38,6 @@ all-same msg msg′ b (suc k) same = ap₂ (handIn k) (same k (omega arith)) (al
 -- A part of cells, cleared.
 cleared-part : (w : Width) (n i : ℕ) (cells : List ℕ) → n ≤ 7 → i < n → cellsNeeded ≤ length cells
     → cleared w n (part n i cells) ≡ replicate (cellCount n) (blank w) ++ []
-unfolding cleared
 cleared-part w n i cells few below room =
     ap (λ x. replicate (cellCount n) (blank w) ++ x)
     (drop-of-length-le (part n i cells) {i = cellCount n} (omega (arith, part-length n i cells few below room)))
@@ -77,10 +76,10 @@ module _ (w : Width) (h : Head) (good : GoodHead h) (fs : List Frame) (cells cel
   unfolding hears at setting keeper
   told-same j i q l same =
       cases (member q (h .faulty))
-      (λ e. rw (e, e))
-      (λ e. rw (e, e) (cases (eqb q (h .plan .dealer))
-      (λ x. rw (x, x))
-      (λ x. rw (x, x) (ap (λ b. some (frameOf b)) (same (rw (lt-ltb q (h .plan .n) l, e, x) refl))))))
+      (λ e. rw e)
+      (λ e. rw e (cases (eqb q (h .plan .dealer))
+      (λ x. rw x)
+      (λ x. rw x (ap (λ b. some (frameOf b)) (same (rw (lt-ltb q (h .plan .n) l, e, x) refl))))))
 
   at-same : (j i : ℕ) → keeper s i ≡ true → at s a j i ≡ at s′ a j i
   unfolding setting
@@ -97,10 +96,10 @@ module _ (w : Width) (h : Head) (good : GoodHead h) (fs : List Frame) (cells cel
   unfolding boardLine finalBoards at setting keeper
   line-same i rest l =
       cases (member i (h .faulty))
-      (λ e. rw (e, e))
-      (λ e. rw (e, e) (cases (eqb i (h .plan .dealer))
-      (λ x. rw (x, x))
-      (λ x. rw (x, x)
+      (λ e. rw e)
+      (λ e. rw e (cases (eqb i (h .plan .dealer))
+      (λ x. rw x)
+      (λ x. rw x
       (ap (λ (b : Board). printed w i (b .rec .decision) (asSet (b .rec .list)) (heldAt (listed (h .plan)) (asSet (b .rec .list))) rest)
       (at-same (steps (h .plan)) i (rw (lt-ltb i (h .plan .n) l, e, x) refl))))))
 
@@ -123,15 +122,16 @@ unfolding playing refusedPlay
 lent-cells w text cells cells′ out size =
     let h = reading w text .head in
     let fs = reading w text .frames in
+    let alike = ap (λ k. ltb k cellsNeeded) (sym size) in
     cases (ltb sheetMost (length text))
-    (λ e. rw (e, e) (record { answer = refl; out = refl }))
-    (λ e. rw (e, e) (cases (ltb (length out) (outputNeeded w))
-    (λ x. rw (x, x) (record { answer = refl; out = refl }))
-    (λ x. rw (x, x, size) (cases (ltb (length cells) cellsNeeded)
-    (λ y. rw (y, y) (record { answer = refl; out = refl }))
-    (λ y. rw (y, y) (cases (eqb (reading w text .answer .number) 0)
+    (λ e. rw e (record { answer = refl; out = refl }))
+    (λ e. rw e (cases (ltb (length out) (outputNeeded w))
+    (λ x. rw x (record { answer = refl; out = refl }))
+    (λ x. rw x (cases (ltb (length cells) cellsNeeded)
+    (λ y. rw (y, alike ∙ y) (record { answer = refl; out = refl }))
+    (λ y. rw (y, alike ∙ y) (cases (eqb (reading w text .answer .number) 0)
     (λ z. let ok = eqb-true (reading w text .answer .number) 0 z in
     let room = ltb-false (length cells) cellsNeeded y in
     let room′ : cellsNeeded ≤ length cells′ = omega (arith, size) in
-    rw (z, z) (head-same w h (sheet-head w text ok) fs cells cells′ room room′ (sheet-sound w text cells ok room) (sheet-sound w text cells′ ok room′) out))
-    (λ z. rw (z, z) (record { answer = refl; out = refl }))))))))
+    rw z (head-same w h (sheet-head w text ok) fs cells cells′ room room′ (sheet-sound w text cells ok room) (sheet-sound w text cells′ ok room′) out))
+    (λ z. rw z (record { answer = refl; out = refl }))))))))

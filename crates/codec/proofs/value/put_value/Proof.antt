@@ -3,8 +3,8 @@
 use Prim.Native.Nat.{_+_, _*_}
 use mathlib.Core.Path.{_∙_, ap₂}
 use native.Mathlib.Omega.{arith}
-use lib.ListN.{set, length-set}
-use borrow.Author.Needs.{needs}
+use lib.ListN.{set}
+use borrow.Author.Needs.{needs, below-set}
 use Rattle.codec.proofs.Codec.{written-pair}
 use Rattle.codec.proofs.value.put_value.Statement.{statement}
 use Rattle.codec.proofs.value.put_value.Tie as tie
@@ -14,7 +14,7 @@ write-low c =
     let high = c .before in
     let start = high .before .before in
     let a = start .args in
-    omega (arith, start .pre, length-set (a.out .now) (2 * a.i) (high .high-byte .result))
+    below-set _ (a.out .now) (2 * a.i + 1) _ _ (omega (arith, start .pre))
 
 returns : tie.Need-returns
 returns c =
