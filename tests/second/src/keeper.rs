@@ -295,8 +295,8 @@ impl Keeper {
         })
     }
 
-    /// The children's values as they are compared: unchanged, but with `LowByteCompared` each is the first that has its low
-    /// byte.
+    /// The children's values as they are compared: unchanged, but with `LowByteCompared` each is the first that has its
+    /// low byte.
     fn compared(&self, mut values: Children) -> Children {
         if self.makes(Mistake::LowByteCompared) {
             let low = |value: Option<Value>| value.map(|v| v & 0xFF);

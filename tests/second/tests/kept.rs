@@ -161,8 +161,8 @@ fn held_first(outcome: &Outcome, line: &Line, seed: u64) {
     assert!(line.board != outcome.plan.dealer || place == 0);
 }
 
-/// With no sets a sheet prints what it prints with the one set 00. Made ones meet every number that such a sheet can meet
-/// and no other; accepted ones have every number of boards, dealer and depth.
+/// With no sets a sheet prints what it prints with the one set 00. Made ones meet every number that such a sheet can
+/// meet and no other; accepted ones have every number of boards, dealer and depth.
 #[test]
 fn made_sheets_with_no_sets() {
     let (mut numbers, mut dealers) = (BTreeSet::new(), BTreeSet::new());

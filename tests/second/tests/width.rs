@@ -277,8 +277,8 @@ fn kept_sheets_are_widened() {
     assert_eq!(Vec::from_iter(told), all);
 }
 
-/// A sheet of one-byte values that is accepted, and whose widened form has the greatest length: case 7 with a set 00, and
-/// an overlong frame for board 3.
+/// A sheet of one-byte values that is accepted, and whose widened form has the greatest length: case 7 with a set 00,
+/// and an overlong frame for board 3.
 fn longest_when_widened() -> String {
     let lines = "04100000000505020001040801\n0101000105\n0101000205\n";
     let text = format!("{lines}01010003{}\n", "07".repeat(16_367));
@@ -442,8 +442,8 @@ fn few_values_are_enough() {
     assert!(played > 500, "{played}");
 }
 
-/// Kept sheets of 0 and 1 with two other values in their stead, which may differ in one byte alone: the decision and the
-/// roots are renamed, and all else is the same.
+/// Kept sheets of 0 and 1 with two other values in their stead, which may differ in one byte alone: the decision and
+/// the roots are renamed, and all else is the same.
 #[test]
 fn values_are_renamed() {
     let mut renamed = 0;
