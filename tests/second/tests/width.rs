@@ -415,6 +415,72 @@ fn made_sheets_of_both_widths() {
     assert!(met.values().all(|count| *count >= 10), "{met:?}");
 }
 
+/// A kind about spans and values is met by frames that count: not by a sheet without frames, nor by frames of another
+/// length or from a listed board.
+#[test]
+fn kinds_are_met_by_frames_that_count() {
+    let played = |sheet: &str| play_at(Two, sheet.as_bytes(), None).unwrap();
+    let met = |sheet: &str| -> Vec<&str> {
+        let outcome = played(sheet);
+        let asked = |kind: &str| kind.starts_with("span") || kind.starts_with("value");
+        let kinds = wide::kinds(Two).iter();
+        let met = kinds.filter(|(kind, shows)| asked(kind) && shows(&outcome));
+        met.map(|(kind, _)| *kind).collect()
+    };
+    // Case 7 with another span and other values; then without frames, with a byte more and with a value more in each.
+    let tells = |span: &str, values: [&str; 3]| {
+        let sheet = |more: &str| {
+            let line = |i: usize| format!("010100{:02X}{}{more}\n", i + 1, values[i]);
+            let lines: String = (0..3).map(line).collect();
+            format!("04{span}000000000000040102040801\n{lines}")
+        };
+        let whole = sheet("");
+        let head = whole.split_inclusive('\n').next().unwrap();
+        for none in [head, &sheet("00"), &sheet(values[0])] {
+            assert_eq!(met(none), [""; 0], "{none}");
+        }
+        met(&whole)
+    };
+    let [last, m, after] = [
+        "value of m - 1, m above 255",
+        "value of m, above 255",
+        "value of m + 1, m above 255",
+    ];
+    let [below, largest, mark] = [
+        "value of FFFF, span below it",
+        "value of FFFE, span 65,535",
+        "value of FFFF, span 65,535",
+    ];
+    let [high, low] = [
+        "values that differ in the high byte alone",
+        "values above 255 that differ in the low byte alone",
+    ];
+    assert_eq!(tells("0002", ["0000"; 3]), ["span 2"]);
+    assert_eq!(tells("00FF", ["00FE"; 3]), ["span 255"]);
+    assert_eq!(tells("0100", ["00FF"; 3]), ["span 256", last]);
+    let about = ["0100", "0101", "0102"];
+    assert_eq!(tells("0101", about), ["span 257", last, m, after]);
+    let about = ["FFFE", "FFFF", "0000"];
+    let span = "span 65,535";
+    assert_eq!(tells("FFFF", about), [span, last, m, largest, mark]);
+    assert_eq!(tells("FFFE", about), [m, after, below]);
+    assert_eq!(tells("0200", ["0105", "0005", "0106"]), [high, low]);
+    // Only values below m are compared.
+    assert_eq!(tells("0105", ["0106", "0006", "0107"]), [after]);
+    // Nobody is listed in round 1; board 0 is, by both boards, before run 4.
+    let kept = String::from_utf8(corpus::kept("default-listed")).unwrap();
+    let first = |value: &str| kept.replace("010103020001", &format!("01010302{value}"));
+    let later = |value: &str| format!("{kept}04020002{value}\n");
+    assert_eq!(met(&first("FFFF")), [below]);
+    assert_eq!(met(&later("FFFF")), [""; 0]);
+    assert_eq!(played(&first("FF")).misfits, BTreeSet::from([-1]));
+    assert_eq!(played(&later("FF")).misfits, BTreeSet::new());
+    // One board keeps no cells.
+    let alone = played("01FFFF0000000001050000\n");
+    assert_eq!(alone.lines[0].decision, 0x0105);
+    assert!(!wide::kinds(Two).iter().any(|(_, shows)| shows(&alone)));
+}
+
 /// A span above 255 is not tried value by value, and gives what a smaller one gives if all values are below both.
 #[test]
 fn few_values_are_enough() {
