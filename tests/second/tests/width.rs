@@ -229,6 +229,42 @@ fn made_sheets_are_widened() {
     assert_eq!(Vec::from_iter(numbers), met);
 }
 
+/// With the span 255 the number FF is m, and at one byte the mark too; widened, 00FF is m and no mark. Made sheets tell
+/// no FF then; here each value that they tell becomes FF in turn.
+#[test]
+fn mark_of_one_byte_is_widened() {
+    let sheet = |values: [&str; 3]| {
+        let line = |i: usize| format!("010100{:02X}{}\n", i + 1, values[i]);
+        let lines: String = (0..3).map(line).collect();
+        format!("04FF07000005040102040801\n{lines}")
+    };
+    for (values, decision) in [
+        (["FE", "FE", "FF"], "FE"),
+        (["FF", "FF", "FE"], "07"),
+        (["FF", "FF", "FF"], "07"),
+    ] {
+        let text = sheet(values);
+        let lines = [1, 2, 3].map(|i| format!("0{i}{decision}0000\n"));
+        assert_eq!(printed(One, &text, None), lines.concat());
+        plays_widened(text.as_bytes(), &text);
+    }
+    let mut played = 0;
+    for seed in 0..2000 {
+        let text = make::sheet_at(One, seed);
+        let sheet = read_at(One, &text, None);
+        let Some(sheet) = sheet.ok().filter(|sheet| sheet.plan.span == 255) else {
+            continue;
+        };
+        for value in session::play_sheet(&sheet, None).counted {
+            let mut other = sheet.clone();
+            other.change_values(|v| if v == value { 0xFF } else { v });
+            assert_eq!(plays_widened(&other.write(), &format!("seed {seed}")), None);
+            played += 1;
+        }
+    }
+    assert!(played > 100, "{played}");
+}
+
 /// The sheet of one-byte values of which this is the widened form, if there is one.
 fn narrowed(text: &[u8]) -> Option<Vec<u8>> {
     let head = Two.head();
