@@ -102,8 +102,35 @@ pub fn play_sheet(sheet: &Sheet, mistake: Option<Mistake>) -> Outcome {
     )
 }
 
+/// Plays a sheet by boards that try every value below m, however many there are.
+pub fn play_sheet_trying_all(sheet: &Sheet) -> Outcome {
+    play_by(
+        |board| Keeper::new(sheet.width, board, None).trying_all(),
+        sheet.width,
+        &sheet.plan,
+        sheet.value,
+        sheet.faulty,
+        &mut &sheet.frames,
+        None,
+    )
+}
+
 /// Plays a session against an adversary.
 pub fn play(
+    width: Width,
+    plan: &Plan,
+    value: Value,
+    faulty: Set,
+    adversary: &mut dyn Adversary,
+    mistake: Option<Mistake>,
+) -> Outcome {
+    let keeper = |board| Keeper::new(width, board, mistake);
+    play_by(keeper, width, plan, value, faulty, adversary, mistake)
+}
+
+/// The same by these boards.
+fn play_by(
+    keeper: impl Fn(u8) -> Keeper,
     width: Width,
     plan: &Plan,
     value: Value,
@@ -114,8 +141,7 @@ pub fn play(
     let tree = Tree::new(plan);
     let healthy: Vec<u8> = (0..plan.n).filter(|b| !has(faulty, *b)).collect();
     let keeping = healthy.iter().filter(|b| **b != plan.dealer);
-    let keeper = |board: &u8| (*board, Keeper::new(width, *board, mistake));
-    let mut keepers: Keepers = keeping.map(keeper).collect();
+    let mut keepers: Keepers = keeping.map(|b| (*b, keeper(*b))).collect();
     let dealt = width.encode_with(&[value], mistake);
     let (mut roots, mut lists, mut told) = (vec![], vec![], BTreeSet::new());
     let (mut counted, mut heard, mut misfits) = (BTreeSet::new(), vec![], BTreeSet::new());

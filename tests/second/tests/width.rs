@@ -1,7 +1,8 @@
 //! Values in one byte and in two: how they are written, and sessions that are widened.
 
 use second::board::State;
-use second::plan::has;
+use second::keeper::Keeper;
+use second::plan::{has, Tree};
 use second::script::{Act, Step};
 use second::scripts::Script;
 use second::sheet::{read_at, CELLS, LONGEST};
@@ -542,6 +543,43 @@ fn few_values_are_enough() {
         played += 1;
     }
     assert!(played > 500, "{played}");
+}
+
+/// Sheets of the spans 257 and 65,535, those of the larger on up to four boards, give the same if every value below m is
+/// tried. Some of them list boards, and some decide m - 1.
+#[test]
+fn all_values_give_the_same() {
+    for (span, boards) in [(257, 7), (Value::MAX, 4)] {
+        tries(span);
+        let (mut played, mut listed, mut last) = (0, 0, 0);
+        for seed in 0..3000 {
+            let text = make::sheet_at(Two, seed);
+            let sheet = read_at(Two, &text, None).ok();
+            let Some(sheet) = sheet.filter(|s| s.plan.span == span && s.plan.n <= boards) else {
+                continue;
+            };
+            let few = session::play_sheet(&sheet, None);
+            if few.counted.is_empty() {
+                continue;
+            }
+            assert_eq!(session::play_sheet_trying_all(&sheet), few, "seed {seed}");
+            played += 1;
+            listed += usize::from(few.lines.iter().any(|line| line.list != 0));
+            last += usize::from(few.lines[0].decision == span - 1);
+        }
+        let counts = [played, listed, last];
+        assert!(counts.iter().all(|count| *count >= 4), "{counts:?}");
+    }
+}
+
+/// Of the children's values and others a board tries few, or all below the span.
+fn tries(span: Value) {
+    let head = format!("04{span:04X}000000000000040102040801\n");
+    let plan = read_at(Two, head.as_bytes(), None).unwrap().plan;
+    let (tree, keeper) = (Tree::new(&plan), Keeper::new(Two, 1, None));
+    let children = vec![(1, Some(span - 1)), (2, None), (3, Some(0))];
+    assert!(keeper.tried(&tree, &children).eq([0, 1, span - 1]));
+    assert!(keeper.trying_all().tried(&tree, &children).eq(0..span));
 }
 
 /// Kept sheets of 0 and 1 with two other values in their stead, which may differ in one byte alone: the decision and
