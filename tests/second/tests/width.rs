@@ -545,8 +545,8 @@ fn few_values_are_enough() {
     assert!(played > 500, "{played}");
 }
 
-/// Sheets of the spans 257 and 65,535, those of the larger on up to four boards, give the same if every value below m is
-/// tried. Some of them list boards, and some decide m - 1.
+/// Sheets of the spans 257 and 65,535, those of the larger on up to four boards, give the same if every value below m
+/// is tried. Some of them list boards, and some decide m - 1.
 #[test]
 fn all_values_give_the_same() {
     for (span, boards) in [(257, 7), (Value::MAX, 4)] {
