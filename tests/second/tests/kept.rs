@@ -158,6 +158,30 @@ fn corpus_heads_of_22() {
     assert_eq!(widen::sheet(&one_byte), corpus::kept("case-7"));
 }
 
+/// Sheets of unequal roots have the depth, the boards and the run of their names. The climbed one, made smaller, is the
+/// other of its numbers.
+#[test]
+fn corpus_unequal_names_hold() {
+    let mut count = 0;
+    for (name, text) in corpus::load() {
+        let mut words = name.split('-');
+        if !["unequal", "climbed"].contains(&words.next().unwrap()) {
+            continue;
+        }
+        let number = |word: &str| word.trim_start_matches(char::is_alphabetic).parse();
+        let numbers: Vec<usize> = words.map(|word| number(word).unwrap()).collect();
+        let outcome = play(&text, None).unwrap();
+        let plan = &outcome.plan;
+        assert_eq!(numbers[..2], [plan.depth.into(), plan.n.into()], "{name}");
+        assert!(plan.cut() && outcome.unequal_after(numbers[2]), "{name}");
+        count += 1;
+    }
+    assert_eq!(count, SPLITS.len() + 1);
+    let climbed = sheet::read(&corpus::kept("climbed-b4-n7-run2")).unwrap();
+    let small = shrink(climbed, &|s| session::play_sheet(s, None).unequal_after(2));
+    assert_eq!(small.write(), corpus::kept("unequal-b4-n7-run2"));
+}
+
 /// Number 5 is met by one set for every n, by two where no one covers, and by three where no two do; the mistakes in
 /// trying sets tell which.
 #[test]
