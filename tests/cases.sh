@@ -33,8 +33,8 @@ for sheet in tests/cases/*.sheet; do
     play "$name" "$sheet" "tests/cases/$name.out"
 done
 
-# Case 7 with so many bytes from the dealer to board 3 that the sheet has 65,536 bytes. Their number is odd; with one set
-# more in the head, the set 00, it is even: 16,367 values. Either frame counts as the default, which is 0.
+# Case 7 with so many bytes from the dealer to board 3 that the sheet has 65,536 bytes. Their number is odd; with one
+# set more in the head, the set 00, it is even: 16,367 values. Either frame counts as the default, which is 0.
 # longest SHEET DIGITS: the first three lines, and a frame of so many digits.
 longest() {
     head -n 3 "tests/cases/$1.sheet"

@@ -320,7 +320,8 @@ static const uint8_t digits[256] = {
     ['0'] = 16, ['1'] = 17, ['2'] = 18, ['3'] = 19, ['4'] = 20, ['5'] = 21, ['6'] = 22, ['7'] = 23,
     ['8'] = 24, ['9'] = 25, ['A'] = 26, ['B'] = 27, ['C'] = 28, ['D'] = 29, ['E'] = 30, ['F'] = 31};
 
-// Decodes a line and goes past it; the number of bytes, or -1 for number 21. After the sheet stands 0, which is no digit.
+// Decodes a line and goes past it; the number of bytes, or -1 for number 21. After the sheet stands 0, which is no
+// digit.
 static int decode(const uint8_t **from, uint8_t *to)
 {
     const uint8_t *p = *from;

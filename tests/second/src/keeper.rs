@@ -15,15 +15,14 @@ pub struct Keeper {
     pub resolved: Resolved,
     width: Width,
     mistake: Option<Mistake>,
+    /// Spans up to this are tried value by value.
+    many: Value,
 }
 
 pub type Resolved = HashMap<Label, Option<Value>>;
 
 /// The children of a node, each with its value if it has one.
 type Children = Vec<(u8, Option<Value>)>;
-
-/// Spans up to this are tried value by value.
-const MANY: Value = 255;
 
 impl Keeper {
     pub fn new(width: Width, board: u8, mistake: Option<Mistake>) -> Keeper {
@@ -34,7 +33,14 @@ impl Keeper {
             resolved: HashMap::new(),
             width,
             mistake,
+            many: 255,
         }
+    }
+
+    /// The same board, but it tries every span value by value.
+    pub fn trying_all(self) -> Keeper {
+        let many = Value::MAX;
+        Keeper { many, ..self }
     }
 
     fn makes(&self, mistake: Mistake) -> bool {
@@ -295,8 +301,8 @@ impl Keeper {
         })
     }
 
-    /// The children's values as they are compared: unchanged, but with `LowByteCompared` each is the first that has its low
-    /// byte.
+    /// The children's values as they are compared: unchanged, but with `LowByteCompared` each is the first that has its
+    /// low byte.
     fn compared(&self, mut values: Children) -> Children {
         if self.makes(Mistake::LowByteCompared) {
             let low = |value: Option<Value>| value.map(|v| v & 0xFF);
@@ -309,10 +315,10 @@ impl Keeper {
     }
 
     /// The values that a rule tries, rising: all below m. Where these are many, those that children have and the least
-    /// that none has, which stands for all others.
-    fn tried(&self, tree: &Tree, values: &Children) -> impl Iterator<Item = Value> {
+    /// that none has. It stands for all others: from each of them all children differ.
+    pub fn tried(&self, tree: &Tree, values: &Children) -> impl Iterator<Item = Value> {
         let span = tree.plan.span;
-        if span <= MANY {
+        if span <= self.many {
             return (0..span).chain(BTreeSet::new());
         }
         let mut tried: BTreeSet<Value> = values.iter().filter_map(|(_, value)| *value).collect();

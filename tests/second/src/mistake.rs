@@ -239,9 +239,9 @@ impl Mistake {
     }
 
     /// Mistakes that no sheet can show, and that calls tell: with `RawStored` cells differ, what is printed does not;
-    /// `CellIsZero` is about cells of m or more, which no sheet leads to; frames as long as `FrameOf121` cuts are due only
-    /// from a board that is in no set, and only where what it says in earlier rounds settles all; entries are not printed,
-    /// and no sheet leads to number 12.
+    /// `CellIsZero` is about cells of m or more, which no sheet leads to; frames as long as `FrameOf121` cuts are due
+    /// only from a board that is in no set, and only where what it says in earlier rounds settles all; entries are not
+    /// printed, and no sheet leads to number 12.
     pub fn hidden(self) -> bool {
         use Mistake::*;
         matches!(self, RawStored | CellIsZero | FrameOf121) || self >= EntryOverwritten

@@ -66,8 +66,8 @@ impl Plan {
         sets.err().or(first.map(|(number, _)| number))
     }
 
-    /// A number taken as a value: the default if there is none or if it is m or more; 0 for the default if `zero`, which
-    /// only a mistake asks for.
+    /// A number taken as a value: the default if there is none or if it is m or more; 0 for the default if `zero`,
+    /// which only a mistake asks for.
     pub fn value_with(&self, number: Option<Value>, zero: bool, mistake: Option<Mistake>) -> Value {
         let default = if zero { 0 } else { self.default };
         let below = |number: &Value| self.below(*number, mistake);
@@ -169,8 +169,8 @@ impl Plan {
     }
 }
 
-/// Judges a list of sets; 5 comes without its places, which `first_cover` gives. An empty list is admitted, and only the
-/// empty set is tolerated then.
+/// Judges a list of sets; 5 comes without its places, which `first_cover` gives. An empty list is admitted, and only
+/// the empty set is tolerated then.
 pub fn admit(n: u8, sets: &[Set]) -> Result<(), u8> {
     admit_with(n, sets, None)
 }

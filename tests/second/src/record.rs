@@ -61,8 +61,8 @@ impl Fields {
         }
     }
 
-    /// Puts a field by its number: n, dealer, span, default, depth, count; from 32 on a slot. All but span and default take
-    /// the low byte.
+    /// Puts a field by its number: n, dealer, span, default, depth, count; from 32 on a slot. All but span and default
+    /// take the low byte.
     pub fn put(&mut self, number: u8, value: Value) {
         let byte = value as u8;
         match number {

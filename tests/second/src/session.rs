@@ -44,9 +44,11 @@ pub struct Outcome {
     pub lists: Vec<Vec<Set>>,
     /// All values that stand in frames of faulty boards.
     pub told: BTreeSet<Value>,
-    /// Those below m in frames of the due length, for each run.
+    /// Those in frames that count: of the due length, from a board that the receiver has not listed.
+    pub counted: BTreeSet<Value>,
+    /// Those of them that are below m, for each run.
     pub heard: Vec<BTreeSet<Value>>,
-    /// By how many bytes their frames of another length are longer than is due; below 0 if shorter.
+    /// By how many bytes frames of another length, from boards not listed, are longer than is due; below 0 if shorter.
     pub misfits: BTreeSet<isize>,
 }
 
@@ -100,8 +102,35 @@ pub fn play_sheet(sheet: &Sheet, mistake: Option<Mistake>) -> Outcome {
     )
 }
 
+/// Plays a sheet by boards that try every value below m, however many there are.
+pub fn play_sheet_trying_all(sheet: &Sheet) -> Outcome {
+    play_by(
+        |board| Keeper::new(sheet.width, board, None).trying_all(),
+        sheet.width,
+        &sheet.plan,
+        sheet.value,
+        sheet.faulty,
+        &mut &sheet.frames,
+        None,
+    )
+}
+
 /// Plays a session against an adversary.
 pub fn play(
+    width: Width,
+    plan: &Plan,
+    value: Value,
+    faulty: Set,
+    adversary: &mut dyn Adversary,
+    mistake: Option<Mistake>,
+) -> Outcome {
+    let keeper = |board| Keeper::new(width, board, mistake);
+    play_by(keeper, width, plan, value, faulty, adversary, mistake)
+}
+
+/// The same by these boards.
+fn play_by(
+    keeper: impl Fn(u8) -> Keeper,
     width: Width,
     plan: &Plan,
     value: Value,
@@ -112,18 +141,24 @@ pub fn play(
     let tree = Tree::new(plan);
     let healthy: Vec<u8> = (0..plan.n).filter(|b| !has(faulty, *b)).collect();
     let keeping = healthy.iter().filter(|b| **b != plan.dealer);
-    let keeper = |board: &u8| (*board, Keeper::new(width, *board, mistake));
-    let mut keepers: Keepers = keeping.map(keeper).collect();
+    let mut keepers: Keepers = keeping.map(|b| (*b, keeper(*b))).collect();
     let dealt = width.encode_with(&[value], mistake);
     let (mut roots, mut lists, mut told) = (vec![], vec![], BTreeSet::new());
-    let (mut heard, mut misfits) = (vec![], BTreeSet::new());
+    let (mut counted, mut heard, mut misfits) = (BTreeSet::new(), vec![], BTreeSet::new());
     for run in 1..=plan.runs() {
         let mut heard_now = BTreeSet::new();
         for round in Plan::first_round(run)..=plan.rounds() {
             for frame in exchange(&tree, &dealt, faulty, run, round, &mut keepers, adversary) {
-                heard_now.extend(frame.heard(width, plan.span));
-                misfits.extend(frame.misfit(width));
-                told.extend(width.decode(&frame.bytes));
+                let values = width.decode(&frame.bytes);
+                match frame.misfit(width) {
+                    _ if frame.listed => (),
+                    Some(by) => drop(misfits.insert(by)),
+                    None => {
+                        heard_now.extend(values.iter().filter(|value| **value < plan.span));
+                        counted.extend(&values);
+                    }
+                }
+                told.extend(values);
             }
         }
         heard.push(heard_now);
@@ -165,6 +200,7 @@ pub fn play(
         roots,
         lists,
         told,
+        counted,
         heard,
         misfits,
     }
@@ -188,10 +224,11 @@ fn explained(
     }
 }
 
-/// A frame of a faulty board, and how many values are due.
+/// A frame of a faulty board, how many values are due, and whether the receiver has listed the board.
 struct Told {
     bytes: Vec<u8>,
     due: usize,
+    listed: bool,
 }
 
 impl Told {
@@ -199,14 +236,6 @@ impl Told {
     fn misfit(&self, width: Width) -> Option<isize> {
         let by = self.bytes.len() as isize - (self.due * width.bytes()) as isize;
         Some(by).filter(|by| *by != 0)
-    }
-
-    /// The values below m, if it has the due length.
-    fn heard(&self, width: Width, span: Value) -> Vec<Value> {
-        let mut values = width.decode(&self.bytes);
-        let fits = values.len() == self.due;
-        values.retain(|value| fits && *value < span);
-        values
     }
 }
 
@@ -249,7 +278,8 @@ fn exchange(
         keeper.store(tree, round, slot.sender, frame.as_deref());
         adversary.stored(slot, frame.as_deref());
         if has(faulty, slot.sender) {
-            told.extend(frame.map(|bytes| Told { bytes, due }));
+            let listed = keeper.list.has(slot.sender);
+            told.extend(frame.map(|bytes| Told { bytes, due, listed }));
         }
     }
     keepers.values_mut().for_each(|k| k.close(tree, run, round));

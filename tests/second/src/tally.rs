@@ -91,9 +91,9 @@ impl Tally {
         join(&mut self.split, other.split);
     }
 
-    /// Whether every number, every kind of unequal roots, of place and of roots between runs, at two bytes every kind of
-    /// their values, an accepted sheet with no sets and one that decides a default other than 0 which nobody told were
-    /// met, and no other number, no impossible roots, no list without a place and no broken claim.
+    /// Whether every number, every kind of unequal roots, of place and of roots between runs, at two bytes every kind
+    /// of their values, an accepted sheet with no sets and one that decides a default other than 0 which nobody told
+    /// were met, and no other number, no impossible roots, no list without a place and no broken claim.
     pub fn full(&self) -> bool {
         self.refused.keys().eq(&NUMBERS)
             && SPLITS.iter().all(|s| self.split.contains_key(s))

@@ -1,5 +1,5 @@
-//! Cases 1 to 10 of the paper, as sheets where they are sheets. Sheets stand here in one-byte values; each is played so,
-//! and widened.
+//! Cases 1 to 10 of the paper, as sheets where they are sheets. Sheets stand here in one-byte values; each is played
+//! so, and widened.
 
 use second::plan::{admit, first_cover, Plan, Tree};
 use second::{bench, play_at, print, widen, Width};

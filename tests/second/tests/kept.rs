@@ -1,13 +1,14 @@
 //! The corpus shows what it is kept for, and made sheets keep the promises.
 
-use second::plan::{has, set_of, within};
-use second::sheet::Refusal;
+use second::plan::{has, set_of, within, Set, Tree};
+use second::sheet::{Refusal, Slot};
 use second::shrink::shrink;
 use second::tally::{Tally, NUMBERS, SPLITS};
 use second::{
-    bench, bench_with, corpus, make, places, play, print, roots, session, sheet, wide, widen,
+    bench, bench_with, chain, corpus, make, places, play, play_at, print, roots, session, sheet,
+    wide, widen,
 };
-use second::{Line, Mistake, Outcome, Sheet, Value, CURRENT};
+use second::{Line, Mistake, Outcome, Sheet, Value, Width, CURRENT};
 use std::collections::BTreeSet;
 
 #[test]
@@ -34,6 +35,151 @@ fn corpus_names_hold() {
             "{name}"
         );
     }
+}
+
+/// The cases, defaults, places and sheets of values above 255 that are kept are those of `tests/cases`, but for one,
+/// and print what stands there.
+#[test]
+fn corpus_has_the_cases() {
+    let folder = concat!(env!("CARGO_MANIFEST_DIR"), "/../cases");
+    let case = |name: &str, extension: &str| {
+        let text = std::fs::read_to_string(format!("{folder}/{name}.{extension}"));
+        text.unwrap_or_else(|_| panic!("{name}.{extension}"))
+    };
+    let text = |bytes: Vec<u8>| String::from_utf8(bytes).unwrap();
+    let mut count = 0;
+    for (name, kept) in corpus::load() {
+        let kind = name.split('-').next().unwrap();
+        let asked = ["case", "default", "place", "wide"].contains(&kind);
+        if asked && name != "wide-unequal" {
+            assert_eq!(text(bench(&kept)), case(&name, "out"), "{name}");
+            assert_eq!(text(kept), case(&name, "sheet"), "{name}");
+            count += 1;
+        }
+    }
+    assert_eq!(count, 24);
+}
+
+/// What the index says of sheets of values above 255: span, values that are told, decision and list of every board.
+#[test]
+fn corpus_wide_names_hold() {
+    let played = |name: &str| play(&corpus::kept(name), None).unwrap();
+    let dealer = set_of([0]);
+    let sheets: [(&str, Value, &[Value], Value, Set); 7] = [
+        ("wide-257", 257, &[1, 256], 256, 0),
+        ("wide-FFFE", 0xFFFF, &[0xFFFE, 0xFFFF], 0xFFFE, 0),
+        ("wide-above", 257, &[257, 258, 0xFFFF], 7, 0),
+        ("wide-dealer", 0xFFFF, &[0xFE, 0xFFFF], 0xFFFE, 0),
+        ("wide-default", 0x200, &[0x200], 0x107, 0),
+        ("wide-low-bytes", 0xFFFF, &[0x105, 0x106, 0x107], 7, dealer),
+        (
+            "mistake-LowByteCompared",
+            0xFFFF,
+            &[0x105, 0x205, 0x305],
+            7,
+            dealer,
+        ),
+    ];
+    for (name, span, told, decision, list) in sheets {
+        let outcome = played(name);
+        assert_eq!(outcome.plan.span, span, "{name}");
+        assert!(outcome.counted.iter().eq(told), "{name}");
+        for line in &outcome.lines {
+            assert_eq!((line.decision, line.list), (decision, list), "{name}");
+        }
+        let healthy = name == "wide-dealer";
+        assert_eq!(outcome.healthy_dealer(), healthy, "{name}");
+        assert_eq!(outcome.faulty, if healthy { set_of([3]) } else { dealer });
+    }
+    assert!(played("wide-above").default_shows() && played("wide-default").default_shows());
+
+    let mut unequal = sheet::read(&corpus::kept("unequal-b4-n6-run1")).unwrap();
+    chain::rename(&mut unequal, 0x206, 0x105, 0x205);
+    assert_eq!(unequal.write(), corpus::kept("wide-unequal"));
+
+    let text = corpus::kept("wide-one-byte");
+    let one = play_at(Width::One, &text, None);
+    assert_ne!(widen::printed(&print(&one)), bench(&text));
+    let sets = one.unwrap().plan.sets;
+    assert_eq!((sets.len(), sets[2]), (4, 1));
+    assert_eq!(played("wide-one-byte").plan.sets.len(), 1);
+}
+
+/// By how many bytes the frames of `overlong-` sheets are too long. They count as the default, as frames that are
+/// missing do, and not as what they begin with.
+#[test]
+fn corpus_overlong_names_hold() {
+    let sheets: [(&str, &[isize]); 6] = [
+        ("overlong-by-1", &[2]),
+        ("overlong-by-128", &[256]),
+        ("overlong-by-256", &[512]),
+        ("overlong-121", &[238, 240, 242]),
+        ("overlong-241", &[238, 239, 240]),
+        ("overlong-round-4", &[2]),
+    ];
+    for (name, by) in sheets {
+        let text = corpus::kept(name);
+        let (outcome, mut sheet) = (play(&text, None).unwrap(), sheet::read(&text).unwrap());
+        assert!(outcome.misfits.iter().eq(by), "{name}");
+        assert_eq!(outcome.plan.default, 0, "{name}");
+        let tree = Tree::new(&sheet.plan);
+        let due = |slot: &Slot| 2 * tree.reported(slot.round.into(), slot.sender).len();
+        sheet.frames.retain(|slot, frame| frame.len() == due(slot));
+        assert_eq!(session::play_sheet(&sheet, None).lines, outcome.lines);
+        assert!(Mistake::told_by(&text).contains(&Mistake::OverlongCut));
+    }
+    let round_4 = sheet::read(&corpus::kept("overlong-round-4")).unwrap();
+    let slots: Vec<u8> = round_4.frames.keys().map(|slot| slot.round).collect();
+    assert_eq!(slots, [4, 4]);
+}
+
+/// The heads of `refusal-22-` sheets, which have two digits a byte: what is left out of them.
+#[test]
+fn corpus_heads_of_22() {
+    let head = |name: &str| {
+        let text = String::from_utf8(corpus::kept(name)).unwrap();
+        text.lines().next().unwrap().to_string()
+    };
+    let (ten, nine) = (head("refusal-22-ten"), head("refusal-22-nine"));
+    assert_eq!((ten.len(), nine.len()), (20, 18));
+    for whole in [format!("{ten}00\n"), format!("{nine}0000\n")] {
+        assert!(play(whole.as_bytes(), None).is_ok(), "{whole}");
+    }
+    let without = |name: &str, from: usize, to: usize| {
+        let whole = head(name);
+        whole[..2 * from].to_string() + &whole[2 * to..]
+    };
+    let default = CURRENT.head().default;
+    let no_default = without("place-later", default, default + 2);
+    assert_eq!(head("refusal-22-no-default"), no_default);
+    let half = without("case-7", default, default + 1);
+    assert_eq!(head("refusal-22-half-default"), half);
+    let one_byte = corpus::kept("refusal-22-one-byte");
+    assert_eq!(widen::sheet(&one_byte), corpus::kept("case-7"));
+}
+
+/// Sheets of unequal roots have the depth, the boards and the run of their names. The climbed one, made smaller, is the
+/// other of its numbers.
+#[test]
+fn corpus_unequal_names_hold() {
+    let mut count = 0;
+    for (name, text) in corpus::load() {
+        let mut words = name.split('-');
+        if !["unequal", "climbed"].contains(&words.next().unwrap()) {
+            continue;
+        }
+        let number = |word: &str| word.trim_start_matches(char::is_alphabetic).parse();
+        let numbers: Vec<usize> = words.map(|word| number(word).unwrap()).collect();
+        let outcome = play(&text, None).unwrap();
+        let plan = &outcome.plan;
+        assert_eq!(numbers[..2], [plan.depth.into(), plan.n.into()], "{name}");
+        assert!(plan.cut() && outcome.unequal_after(numbers[2]), "{name}");
+        count += 1;
+    }
+    assert_eq!(count, SPLITS.len() + 1);
+    let climbed = sheet::read(&corpus::kept("climbed-b4-n7-run2")).unwrap();
+    let small = shrink(climbed, &|s| session::play_sheet(s, None).unequal_after(2));
+    assert_eq!(small.write(), corpus::kept("unequal-b4-n7-run2"));
 }
 
 /// Number 5 is met by one set for every n, by two where no one covers, and by three where no two do; the mistakes in
@@ -161,8 +307,8 @@ fn held_first(outcome: &Outcome, line: &Line, seed: u64) {
     assert!(line.board != outcome.plan.dealer || place == 0);
 }
 
-/// With no sets a sheet prints what it prints with the one set 00. Made ones meet every number that such a sheet can meet
-/// and no other; accepted ones have every number of boards, dealer and depth.
+/// With no sets a sheet prints what it prints with the one set 00. Made ones meet every number that such a sheet can
+/// meet and no other; accepted ones have every number of boards, dealer and depth.
 #[test]
 fn made_sheets_with_no_sets() {
     let (mut numbers, mut dealers) = (BTreeSet::new(), BTreeSet::new());

@@ -1,7 +1,8 @@
 //! Values in one byte and in two: how they are written, and sessions that are widened.
 
 use second::board::State;
-use second::plan::has;
+use second::keeper::Keeper;
+use second::plan::{has, Tree};
 use second::script::{Act, Step};
 use second::scripts::Script;
 use second::sheet::{read_at, CELLS, LONGEST};
@@ -229,6 +230,42 @@ fn made_sheets_are_widened() {
     assert_eq!(Vec::from_iter(numbers), met);
 }
 
+/// With the span 255 the number FF is m, and at one byte the mark too; widened, 00FF is m and no mark. Made sheets tell
+/// no FF then; here each value that they tell becomes FF in turn.
+#[test]
+fn mark_of_one_byte_is_widened() {
+    let sheet = |values: [&str; 3]| {
+        let line = |i: usize| format!("010100{:02X}{}\n", i + 1, values[i]);
+        let lines: String = (0..3).map(line).collect();
+        format!("04FF07000005040102040801\n{lines}")
+    };
+    for (values, decision) in [
+        (["FE", "FE", "FF"], "FE"),
+        (["FF", "FF", "FE"], "07"),
+        (["FF", "FF", "FF"], "07"),
+    ] {
+        let text = sheet(values);
+        let lines = [1, 2, 3].map(|i| format!("0{i}{decision}0000\n"));
+        assert_eq!(printed(One, &text, None), lines.concat());
+        plays_widened(text.as_bytes(), &text);
+    }
+    let mut played = 0;
+    for seed in 0..2000 {
+        let text = make::sheet_at(One, seed);
+        let sheet = read_at(One, &text, None);
+        let Some(sheet) = sheet.ok().filter(|sheet| sheet.plan.span == 255) else {
+            continue;
+        };
+        for value in session::play_sheet(&sheet, None).counted {
+            let mut other = sheet.clone();
+            other.change_values(|v| if v == value { 0xFF } else { v });
+            assert_eq!(plays_widened(&other.write(), &format!("seed {seed}")), None);
+            played += 1;
+        }
+    }
+    assert!(played > 100, "{played}");
+}
+
 /// The sheet of one-byte values of which this is the widened form, if there is one.
 fn narrowed(text: &[u8]) -> Option<Vec<u8>> {
     let head = Two.head();
@@ -277,8 +314,8 @@ fn kept_sheets_are_widened() {
     assert_eq!(Vec::from_iter(told), all);
 }
 
-/// A sheet of one-byte values that is accepted, and whose widened form has the greatest length: case 7 with a set 00, and
-/// an overlong frame for board 3.
+/// A sheet of one-byte values that is accepted, and whose widened form has the greatest length: case 7 with a set 00,
+/// and an overlong frame for board 3.
 fn longest_when_widened() -> String {
     let lines = "04100000000505020001040801\n0101000105\n0101000205\n";
     let text = format!("{lines}01010003{}\n", "07".repeat(16_367));
@@ -415,6 +452,72 @@ fn made_sheets_of_both_widths() {
     assert!(met.values().all(|count| *count >= 10), "{met:?}");
 }
 
+/// A kind about spans and values is met by frames that count: not by a sheet without frames, nor by frames of another
+/// length or from a listed board.
+#[test]
+fn kinds_are_met_by_frames_that_count() {
+    let played = |sheet: &str| play_at(Two, sheet.as_bytes(), None).unwrap();
+    let met = |sheet: &str| -> Vec<&str> {
+        let outcome = played(sheet);
+        let asked = |kind: &str| kind.starts_with("span") || kind.starts_with("value");
+        let kinds = wide::kinds(Two).iter();
+        let met = kinds.filter(|(kind, shows)| asked(kind) && shows(&outcome));
+        met.map(|(kind, _)| *kind).collect()
+    };
+    // Case 7 with another span and other values; then without frames, with a byte more and with a value more in each.
+    let tells = |span: &str, values: [&str; 3]| {
+        let sheet = |more: &str| {
+            let line = |i: usize| format!("010100{:02X}{}{more}\n", i + 1, values[i]);
+            let lines: String = (0..3).map(line).collect();
+            format!("04{span}000000000000040102040801\n{lines}")
+        };
+        let whole = sheet("");
+        let head = whole.split_inclusive('\n').next().unwrap();
+        for none in [head, &sheet("00"), &sheet(values[0])] {
+            assert_eq!(met(none), [""; 0], "{none}");
+        }
+        met(&whole)
+    };
+    let [last, m, after] = [
+        "value of m - 1, m above 255",
+        "value of m, above 255",
+        "value of m + 1, m above 255",
+    ];
+    let [below, largest, mark] = [
+        "value of FFFF, span below it",
+        "value of FFFE, span 65,535",
+        "value of FFFF, span 65,535",
+    ];
+    let [high, low] = [
+        "values that differ in the high byte alone",
+        "values above 255 that differ in the low byte alone",
+    ];
+    assert_eq!(tells("0002", ["0000"; 3]), ["span 2"]);
+    assert_eq!(tells("00FF", ["00FE"; 3]), ["span 255"]);
+    assert_eq!(tells("0100", ["00FF"; 3]), ["span 256", last]);
+    let about = ["0100", "0101", "0102"];
+    assert_eq!(tells("0101", about), ["span 257", last, m, after]);
+    let about = ["FFFE", "FFFF", "0000"];
+    let span = "span 65,535";
+    assert_eq!(tells("FFFF", about), [span, last, m, largest, mark]);
+    assert_eq!(tells("FFFE", about), [m, after, below]);
+    assert_eq!(tells("0200", ["0105", "0005", "0106"]), [high, low]);
+    // Only values below m are compared.
+    assert_eq!(tells("0105", ["0106", "0006", "0107"]), [after]);
+    // Nobody is listed in round 1; board 0 is, by both boards, before run 4.
+    let kept = String::from_utf8(corpus::kept("default-listed")).unwrap();
+    let first = |value: &str| kept.replace("010103020001", &format!("01010302{value}"));
+    let later = |value: &str| format!("{kept}04020002{value}\n");
+    assert_eq!(met(&first("FFFF")), [below]);
+    assert_eq!(met(&later("FFFF")), [""; 0]);
+    assert_eq!(played(&first("FF")).misfits, BTreeSet::from([-1]));
+    assert_eq!(played(&later("FF")).misfits, BTreeSet::new());
+    // One board keeps no cells.
+    let alone = played("01FFFF0000000001050000\n");
+    assert_eq!(alone.lines[0].decision, 0x0105);
+    assert!(!wide::kinds(Two).iter().any(|(_, shows)| shows(&alone)));
+}
+
 /// A span above 255 is not tried value by value, and gives what a smaller one gives if all values are below both.
 #[test]
 fn few_values_are_enough() {
@@ -442,8 +545,45 @@ fn few_values_are_enough() {
     assert!(played > 500, "{played}");
 }
 
-/// Kept sheets of 0 and 1 with two other values in their stead, which may differ in one byte alone: the decision and the
-/// roots are renamed, and all else is the same.
+/// Sheets of the spans 257 and 65,535, those of the larger on up to four boards, give the same if every value below m
+/// is tried. Some of them list boards, and some decide m - 1.
+#[test]
+fn all_values_give_the_same() {
+    for (span, boards) in [(257, 7), (Value::MAX, 4)] {
+        tries(span);
+        let (mut played, mut listed, mut last) = (0, 0, 0);
+        for seed in 0..3000 {
+            let text = make::sheet_at(Two, seed);
+            let sheet = read_at(Two, &text, None).ok();
+            let Some(sheet) = sheet.filter(|s| s.plan.span == span && s.plan.n <= boards) else {
+                continue;
+            };
+            let few = session::play_sheet(&sheet, None);
+            if few.counted.is_empty() {
+                continue;
+            }
+            assert_eq!(session::play_sheet_trying_all(&sheet), few, "seed {seed}");
+            played += 1;
+            listed += usize::from(few.lines.iter().any(|line| line.list != 0));
+            last += usize::from(few.lines[0].decision == span - 1);
+        }
+        let counts = [played, listed, last];
+        assert!(counts.iter().all(|count| *count >= 4), "{counts:?}");
+    }
+}
+
+/// Of the children's values and others a board tries few, or all below the span.
+fn tries(span: Value) {
+    let head = format!("04{span:04X}000000000000040102040801\n");
+    let plan = read_at(Two, head.as_bytes(), None).unwrap().plan;
+    let (tree, keeper) = (Tree::new(&plan), Keeper::new(Two, 1, None));
+    let children = vec![(1, Some(span - 1)), (2, None), (3, Some(0))];
+    assert!(keeper.tried(&tree, &children).eq([0, 1, span - 1]));
+    assert!(keeper.trying_all().tried(&tree, &children).eq(0..span));
+}
+
+/// Kept sheets of 0 and 1 with two other values in their stead, which may differ in one byte alone: the decision and
+/// the roots are renamed, and all else is the same.
 #[test]
 fn values_are_renamed() {
     let mut renamed = 0;

@@ -3,8 +3,9 @@
 //! For depth 0 the tree is full: the set of the boards 0 to 5 gives seven levels under dealer 0.
 //! For another depth the set of the boards 0 to 4 gives six, which are cut, and boards get listed.
 //! With `every` the sets name every board, and number 5 must try them: the set of the boards 0 to 3 gives five levels,
-//! which is the most that leaves room for it. That set stands last of SETS. Three of its boards are faulty and send frames.
-//! Spans are at most 255: the sheets are made in one-byte values and widened, so that both widths have the same sessions.
+//! which is the most that leaves room for it. That set stands last of SETS. Three of its boards are faulty and send
+//! frames. Spans are at most 255: the sheets are made in one-byte values and widened, so that both widths have the same
+//! sessions.
 
 use second::make;
 use second::plan::{Plan, Set};

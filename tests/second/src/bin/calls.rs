@@ -123,8 +123,8 @@ fn check(script: &Script, stdout: &mut impl Read) -> Result<(), String> {
     first
 }
 
-/// Where two replies differ: the answer has 5 bytes, the record 36 and two values for its plan, 28 for its entries, then
-/// 6 and a value.
+/// Where two replies differ: the answer has 5 bytes, the record 36 and two values for its plan, 28 for its entries,
+/// then 6 and a value.
 fn difference(place: usize, step: &Step, ours: &[u8], theirs: &[u8]) -> String {
     let places: Vec<usize> = (0..ours.len()).filter(|i| ours[*i] != theirs[*i]).collect();
     let step = match &step.act {
