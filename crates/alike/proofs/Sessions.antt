@@ -1,18 +1,15 @@
 -- The synchronous session on alike plans: board by board the same, the plan apart.
 -- Assumes nothing.
-use Prim.Native.Nat.{ℕ, zero, suc, _<_}
-use mathlib.Core.Path.{_≡_, refl, sym, _∙_, ap, subst, subst₂}
+use Prim.Native.Nat.{ℕ, _<_}
+use mathlib.Core.Path.{_≡_, refl, sym, _∙_, ap, subst₂}
 use mathlib.Core.Logic.{_⊎_, inl, inr, ⊎-elim}
 use mathlib.Core.Bool.{true, false, cond}
 use mathlib.Core.List.{List, [], _∷_}
-use mathlib.Core.Option.{Option, some, none}
-use native.Mathlib.Omega.{arith}
+use mathlib.Core.Option.{some}
 use lib.Dec.{eqb}
 use Rattle.codec.specs.Codec.{Width}
 use Rattle.sets.specs.Sets.{member}
-use Rattle.sets.specs.Tabulate.{tabulate}
 use Rattle.sets.proofs.Tests.{cases}
-use Rattle.sets.proofs.Tabulated.{tabulate-at}
 use Rattle.plan.specs.declared.plan.Plan.{Plan}
 use Rattle.plan.specs.Calls.{voidPlan, judged}
 use Rattle.settings.specs.Planning.{planning}
@@ -20,7 +17,8 @@ use Rattle.admission.specs.Calls.{admitting}
 use Rattle.refusals.specs.Outcome.{refused, andThen}
 use Rattle.protocol.specs.Rounds.{Board}
 use Rattle.protocol.specs.Calls.{Result, isTaken, goodPlan, goodRecord, judgeRecord, judgeOpen, freshRecord, voidRecord, judgeBeginning, beginning, judgeReceiving, taking, frameOf, closing}
-use Rattle.protocol.specs.Session.{Adversary, Setting, Boards, nobody, boardAt, begun, hears, handIn, takeAll, hearAll, session}
+use Rattle.protocol.specs.Session.{Adversary, Setting, begun, hears, at}
+use Rattle.synchronous.proofs.Synchronous.{told, at-related}
 use Rattle.alike.specs.Alike.{Alike, boardOn, resultOn}
 use Rattle.alike.proofs.Trees.{itself}
 use Rattle.alike.proofs.Boards.{begins-alike, takes-alike, frame-of-alike, closes-alike}
@@ -94,52 +92,21 @@ module _ (s r : Setting) (same-width : s .width ≡ r .width) (a : Alike (s .pla
   abbrev SameBoard : Board → Board → Type 0
   SameBoard = Kin (s .plan) (r .plan)
 
-  abbrev AllKin : Boards → Boards → Type 0
-  AllKin w v = (i : ℕ) → i < s .plan .n → SameBoard (boardAt w i) (boardAt v i)
+  kin-told : (j : ℕ) → ((i : ℕ) → i < s .plan .n → i ≡ i → SameBoard (at s liars j i) (at r liars j i)) → (i q : ℕ) → q < s .plan .n → told s liars i j q ≡ told r liars i j q
+  unfolding hears at
+  kin-told j kin i q l = λ x.
+      cond (member q (faulty x)) (liars i j q)
+      (cond (eqb q (a .dealer x)) (some (word x ∷ [])) (some (kin-frame (s .plan) (r .plan) a (at s liars j q) (at r liars j q) (kin q l refl) x)))
 
-  kin-hears : (w v : Boards) → AllKin w v → (i j k : ℕ) → k < s .plan .n → hears s liars w i j k ≡ hears r liars v i j k
-  unfolding hears
-  kin-hears w v kin i j k l = λ x.
-      cond (member k (faulty x)) (liars i j k)
-      (cond (eqb k (a .dealer x)) (some (word x ∷ [])) (some (kin-frame (s .plan) (r .plan) a (boardAt w k) (boardAt v k) (kin k l) x)))
+  kin-begun : (i : ℕ) → SameBoard (begun s i) (begun r i)
+  unfolding begun
+  kin-begun i =
+      subst₂ (λ w cells. SameBoard (beginning (s .width) (s .plan) i (s .buffer i) .board) (beginning w (r .plan) i cells .board)) same-width (ap (λ f. f i) buffer)
+      (kin-begins (s .plan) (r .plan) a (s .width) i (s .buffer i))
 
-  kin-hand-in : (k : ℕ) (told : Option (List ℕ)) (b c : Board) → SameBoard b c → SameBoard (handIn k told b) (handIn k told c)
-  unfolding handIn
-  kin-hand-in k none b c h = h
-  kin-hand-in k (some vs) b c h = kin-takes (s .plan) (r .plan) a b c k vs h
-
-  kin-take-all : (f g : ℕ → Option (List ℕ)) (b c : Board) (k : ℕ) → ((i : ℕ) → i < k → f i ≡ g i) → SameBoard b c → SameBoard (takeAll f b k) (takeAll g c k)
-  unfolding takeAll
-  kin-take-all f g b c zero e h = h
-  kin-take-all f g b c (suc k) e h =
-      subst (λ m. SameBoard (handIn k (f k) (takeAll f b k)) (handIn k m (takeAll g c k))) (e k (omega arith))
-      (kin-hand-in k (f k) (takeAll f b k) (takeAll g c k) (kin-take-all f g b c k (λ i l. e i (omega arith)) h))
-
-  -- The boards of both settings, by number.
-  module _ (f g : ℕ → Board) (same : (i : ℕ) → i < s .plan .n → SameBoard (f i) (g i)) where
-    kin-tabulate : AllKin (tabulate f 0 (s .plan .n)) (tabulate g 0 (r .plan .n))
-    unfolding boardAt
-    kin-tabulate i l =
-        let here = tabulate-at f (s .plan .n) i nobody l in
-        let there = tabulate-at g (r .plan .n) i nobody (subst (λ n. i < n) (a .n) l) in
-        subst (λ x. SameBoard x (boardAt (tabulate g 0 (r .plan .n)) i)) (sym here) (subst (λ y. SameBoard (f i) y) (sym there) (same i l))
-
-  pub kin-session : (j : ℕ) → AllKin (session s liars j) (session r liars j)
-  unfolding session begun hearAll
-  kin-session zero =
-      kin-tabulate (begun s) (begun r)
-      (λ i l. subst₂ (λ w cells. SameBoard (beginning (s .width) (s .plan) i (s .buffer i) .board) (beginning w (r .plan) i cells .board)) same-width (ap (λ f. f i) buffer)
-      (kin-begins (s .plan) (r .plan) a (s .width) i (s .buffer i)))
-  kin-session (suc j) =
-      let w = session s liars j in
-      let v = session r liars j in
-      kin-tabulate (λ i. closing (hearAll s liars w i j (s .plan .n)) .board) (λ i. closing (hearAll r liars v i j (r .plan .n)) .board)
-      (λ i l. kin-closes (s .plan) (r .plan) a (hearAll s liars w i j (s .plan .n)) (hearAll r liars v i j (r .plan .n)) (heard w v (kin-session j) i j l))
-    where
-      heard : (w v : Boards) → AllKin w v → (i j : ℕ) → i < s .plan .n → SameBoard (hearAll s liars w i j (s .plan .n)) (hearAll r liars v i j (r .plan .n))
-      heard w v kin i j l =
-          subst (λ n. SameBoard (takeAll (hears s liars w i j) (boardAt w i) (s .plan .n)) (takeAll (hears r liars v i j) (boardAt v i) n)) (a .n)
-          (kin-take-all (hears s liars w i j) (hears r liars v i j) (boardAt w i) (boardAt v i) (s .plan .n) (kin-hears w v kin i j) (kin i l))
+  pub kin-session : (j i : ℕ) → i < s .plan .n → SameBoard (at s liars j i) (at r liars j i)
+  kin-session j i l =
+      at-related SameBoard (kin-takes (s .plan) (r .plan) a) (kin-closes (s .plan) (r .plan) a) s r liars (a .n) (λ i. i ≡ i) (λ i _ _. kin-begun i) kin-told j i l refl
 
 -- What is printed and left of a board.
 pub record SameFields (b c : Board) : Type 0 where

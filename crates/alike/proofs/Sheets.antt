@@ -15,7 +15,7 @@ use Rattle.sets.proofs.Tests.{cases}
 use Rattle.schedule.specs.Schedule.{steps, stepRun, stepRound}
 use Rattle.refusals.specs.Outcome.{taken}
 use Rattle.protocol.specs.Listing.{asSet}
-use Rattle.protocol.specs.Session.{Adversary, Boards, boardAt, session}
+use Rattle.protocol.specs.Session.{Adversary, Boards, boardAt, at}
 use Rattle.sheet.specs.declared.head.Head.{Head}
 use Rattle.sheet.specs.Sheet.{Line, lineBytes, Frame, frameLine, rises, goodFrame, refusedReading, addFrame, readFrames}
 use Rattle.sheet.specs.Playing.{findFrame, decoded, sheetAdversary, part, replacePart, setting, finalBoards, printed, boardLine, printBoards, finalCells, playHead}
@@ -64,14 +64,14 @@ module _ (g h : Head) (a : AlikeHeads g h) where
     ending x = finalBoards w x fs cells
 
     fields-alike : (i : ℕ) → i < g .plan .n → SameFields (boardAt (ending g) i) (boardAt (ending h) i)
-    unfolding finalBoards setting
+    unfolding finalBoards setting at
     fields-alike i l =
         let s = setting w g cells in
         let r = setting w h cells in
         let buffer : s .buffer ≡ r .buffer = λ j i. part (a .plan .n j) i cells in
-        let all : (liars : Adversary) (k : ℕ) → SameFields (boardAt (session s liars k) i) (boardAt (session r liars k) i) =
+        let all : (liars : Adversary) (k : ℕ) → SameFields (at s liars k i) (at r liars k i) =
         λ liars k. kin-fields (g .plan) (h .plan) _ _ (kin-session s r refl (a .plan) (a .faulty) (a .word) buffer liars k i l) in
-        subst₂ (λ liars k. SameFields (boardAt (ending g) i) (boardAt (session r liars k) i)) (adversary-alike w fs) steps-alike
+        subst₂ (λ liars k. SameFields (boardAt (ending g) i) (at r liars k i)) (adversary-alike w fs) steps-alike
         (all (sheetAdversary w g fs) (steps (g .plan)))
 
     line-alike : (i : ℕ) (rest : List ℕ) → i < g .plan .n → boardLine w g (ending g) i rest ≡ boardLine w h (ending h) i rest

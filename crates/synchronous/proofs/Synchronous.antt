@@ -1,7 +1,7 @@
 -- The synchronous session, step by step: where each healthy board stands, and what it is after the next step.
 -- Assumes nothing.
 use Prim.Native.Nat.{ℕ, zero, suc, _+_, _-_, _*_, _≤_, _<_}
-use mathlib.Core.Path.{_≡_, refl, sym, _∙_, ap, ap₂, subst}
+use mathlib.Core.Path.{_≡_, refl, sym, _∙_, ap, ap₂, subst, subst₂}
 use mathlib.Core.Logic.{_≢_}
 use mathlib.Core.Bool.{true, false, not, _&&_}
 use mathlib.Core.List.{List}
@@ -66,23 +66,40 @@ module _ (s : Setting) (a : Adversary) where
   unfolding at boardAt
   at-past j i l = List·getD-eq-default (session s a j) nobody {n = i} (omega (arith, session-length j))
 
--- What handing in and closing keep holds all along the session.
-module _ (P : Board → Type 0)
-    (takes : (b : Board) (q : ℕ) (vs : List ℕ) → P b → P (taking b q vs .board)) (closes : (b : Board) → P b → P (closing b .board)) where
-  hand-keeps : (q : ℕ) (o : Option (List ℕ)) (b : Board) → P b → P (handIn q o b)
+-- Two sessions side by side: what handing in the same values and closing keep between two boards holds all along.
+module _ (R : Board → Board → Type 0)
+    (takes : (b c : Board) (q : ℕ) (vs : List ℕ) → R b c → R (taking b q vs .board) (taking c q vs .board))
+    (closes : (b c : Board) → R b c → R (closing b .board) (closing c .board)) where
+  hand-related : (q : ℕ) (o : Option (List ℕ)) (b c : Board) → R b c → R (handIn q o b) (handIn q o c)
   unfolding handIn
-  hand-keeps q none b h = h
-  hand-keeps q (some vs) b h = takes b q vs h
+  hand-related q none b c h = h
+  hand-related q (some vs) b c h = takes b c q vs h
 
-  pub all-keeps : (msg : ℕ → Option (List ℕ)) (b : Board) (k : ℕ) → P b → P (takeAll msg b k)
+  all-related : (f g : ℕ → Option (List ℕ)) (b c : Board) (k : ℕ) → ((q : ℕ) → q < k → f q ≡ g q) → R b c → R (takeAll f b k) (takeAll g c k)
   unfolding takeAll
-  all-keeps msg b zero h = h
-  all-keeps msg b (suc k) h = hand-keeps k (msg k) (takeAll msg b k) (all-keeps msg b k h)
+  all-related f g b c zero e h = h
+  all-related f g b c (suc k) e h =
+      subst (λ m. R (handIn k (f k) (takeAll f b k)) (handIn k m (takeAll g c k))) (e k (omega arith))
+      (hand-related k (f k) (takeAll f b k) (takeAll g c k) (all-related f g b c k (λ q l. e q (omega arith)) h))
 
-  pub at-keeps : (s : Setting) (a : Adversary) → ((i : ℕ) → P (begun s i)) → (j i : ℕ) → i < s .plan .n → P (at s a j i)
-  at-keeps s a h zero i l = subst P (sym (at-start s a i l)) (h i)
-  at-keeps s a h (suc j) i l =
-      subst P (sym (at-next s a i j l)) (closes _ (all-keeps (told s a i j) (at s a j i) (s .plan .n) (at-keeps s a h j i l)))
+  -- Of the boards in K, if they begin so and all boards are told the same.
+  module _ (s r : Setting) (a : Adversary) (n : s .plan .n ≡ r .plan .n) (K : ℕ → Type 0)
+      (starts : (i : ℕ) → i < s .plan .n → K i → R (begun s i) (begun r i))
+      (tells : (j : ℕ) → ((i : ℕ) → i < s .plan .n → K i → R (at s a j i) (at r a j i)) → (i q : ℕ) → q < s .plan .n → told s a i j q ≡ told r a i j q) where
+    pub at-related : (j i : ℕ) → i < s .plan .n → K i → R (at s a j i) (at r a j i)
+    at-related zero i l k = subst₂ R (sym (at-start s a i l)) (sym (at-start r a i (subst (λ m. i < m) n l))) (starts i l k)
+    at-related (suc j) i l k =
+        subst₂ R (sym (at-next s a i j l)) (sym (at-next r a i j (subst (λ m. i < m) n l)))
+        (closes _ _
+        (subst (λ m. R (takeAll (told s a i j) (at s a j i) (s .plan .n)) (takeAll (told r a i j) (at r a j i) m)) n
+        (all-related (told s a i j) (told r a i j) (at s a j i) (at r a j i) (s .plan .n) (tells j (at-related j) i) (at-related j i l k))))
+
+-- What handing in and closing keep of one board holds all along the session.
+pub at-keeps : (P : Board → Type 0)
+    → ((b : Board) (q : ℕ) (vs : List ℕ) → P b → P (taking b q vs .board)) → ((b : Board) → P b → P (closing b .board))
+    → (s : Setting) (a : Adversary) → ((i : ℕ) → P (begun s i)) → (j i : ℕ) → i < s .plan .n → P (at s a j i)
+at-keeps P takes closes s a h j i l =
+    at-related (λ b _. P b) (λ b _ q vs p. takes b q vs p) (λ b _ p. closes b p) s s a refl (λ i. i ≡ i) (λ i _ _. h i) (λ _ _ _ _ _. refl) j i l refl
 
 -- A board keeps the width that it was begun with.
 pub begun-width : (s : Setting) (i : ℕ) → begun s i .width ≡ s .width

@@ -1,10 +1,10 @@
 -- What lent cells held before shows in no answer and no line: all cells of a board's part are cleared as it begins.
 -- Assumes nothing.
 use Prim.Native.Nat.{ℕ, zero, suc, _+_, _≤_, _<_}
-use mathlib.Core.Path.{_≡_, refl, sym, _∙_, ap, ap₂}
+use mathlib.Core.Path.{_≡_, refl, sym, _∙_, ap}
 use mathlib.Core.Bool.{true}
 use mathlib.Core.List.{List, [], _∷_, _++_}
-use mathlib.Core.Option.{Option, some}
+use mathlib.Core.Option.{some}
 use native.Mathlib.Omega.{arith}
 use lib.Dec.{eqb, ltb}
 use lib.ListN.{length, replicate, drop, drop-of-length-le}
@@ -20,20 +20,14 @@ use Rattle.tree.specs.Places.{cellCount}
 use Rattle.protocol.specs.Limits.{sheetMost, outputNeeded, cellsNeeded}
 use Rattle.protocol.specs.Listing.{asSet}
 use Rattle.protocol.specs.Rounds.{boardOf, Board, cleared}
-use Rattle.protocol.specs.Calls.{freshRecord, frameOf, closing}
-use Rattle.protocol.specs.Session.{Adversary, Setting, hears, handIn, takeAll, at, keeper, Sound}
-use Rattle.synchronous.proofs.Synchronous.{told, at-start, at-next, keeper-facts, begun-shape}
+use Rattle.protocol.specs.Calls.{freshRecord, taking, frameOf, closing}
+use Rattle.protocol.specs.Session.{Adversary, Setting, begun, hears, at, keeper, Sound}
+use Rattle.synchronous.proofs.Synchronous.{told, at-related, begun-shape}
 use Rattle.sheet.specs.declared.head.Head.{Head}
 use Rattle.sheet.specs.Sheet.{Frame, reading}
 use Rattle.sheet.specs.Playing.{sheetAdversary, part, setting, finalBoards, printed, boardLine, printBoards, refusedPlay, playHead, playing}
 use Rattle.sheet.proofs.Sheets.{GoodHead, sheet-head, few-boards, part-length, sheet-sound}
 use Rattle.wide_sheets.specs.Claims.{SameLines, LentCells}
-
--- The same messages.
-all-same : (msg msg′ : ℕ → Option (List ℕ)) (b : Board) (k : ℕ) → ((q : ℕ) → q < k → msg q ≡ msg′ q) → takeAll msg b k ≡ takeAll msg′ b k
-unfolding takeAll
-all-same msg msg′ b zero same = refl
-all-same msg msg′ b (suc k) same = ap₂ (handIn k) (same k (omega arith)) (all-same msg msg′ b k (λ q l. same q (omega arith)))
 
 -- A part of cells, cleared.
 cleared-part : (w : Width) (n i : ℕ) (cells : List ℕ) → n ≤ 7 → i < n → cellsNeeded ≤ length cells
@@ -54,43 +48,27 @@ module _ (w : Width) (h : Head) (good : GoodHead h) (fs : List Frame) (cells cel
   abbrev a : Adversary
   a = sheetAdversary w h fs
 
-  -- A board that keeps cells in the one session does so in the other.
-  keeps : (i : ℕ) → keeper s i ≡ true → keeper s′ i ≡ true
-  unfolding keeper setting
-  keeps i k = k
-
-  start-same : (i : ℕ) → keeper s i ≡ true → at s a 0 i ≡ at s′ a 0 i
-  unfolding setting
-  start-same i k =
-      let below = keeper-facts s a sound i k .0 in
+  begun-same : (i : ℕ) → i < h .plan .n → keeper s i ≡ true → begun s i ≡ begun s′ i
+  unfolding setting keeper
+  begun-same i below k =
       let few = few-boards h good in
       let clear = cleared-part w (h .plan .n) i cells few below room ∙ sym (cleared-part w (h .plan .n) i cells′ few below room′) in
-      at-start s a i below
-      ∙ begun-shape s a sound i k
-      ∙ ap (boardOf w (freshRecord (h .plan) i)) clear
-      ∙ sym (begun-shape s′ a sound′ i (keeps i k))
-      ∙ sym (at-start s′ a i below)
+      begun-shape s a sound i k ∙ ap (boardOf w (freshRecord (h .plan) i)) clear ∙ sym (begun-shape s′ a sound′ i k)
 
   -- What is heard from a board: of those that keep cells alone, what they hold.
-  told-same : (j i q : ℕ) → q < h .plan .n → (keeper s q ≡ true → at s a j q ≡ at s′ a j q) → told s a i j q ≡ told s′ a i j q
+  told-same : (j : ℕ) → ((i : ℕ) → i < h .plan .n → keeper s i ≡ true → at s a j i ≡ at s′ a j i) → (i q : ℕ) → q < h .plan .n → told s a i j q ≡ told s′ a i j q
   unfolding hears at setting keeper
-  told-same j i q l same =
+  told-same j same i q l =
       cases (member q (h .faulty))
       (λ e. rw e)
       (λ e. rw e (cases (eqb q (h .plan .dealer))
       (λ x. rw x)
-      (λ x. rw x (ap (λ b. some (frameOf b)) (same (rw (lt-ltb q (h .plan .n) l, e, x) refl))))))
+      (λ x. rw x (ap (λ b. some (frameOf b)) (same q l (rw (lt-ltb q (h .plan .n) l, e, x) refl))))))
 
-  at-same : (j i : ℕ) → keeper s i ≡ true → at s a j i ≡ at s′ a j i
+  at-same : (j i : ℕ) → i < h .plan .n → keeper s i ≡ true → at s a j i ≡ at s′ a j i
   unfolding setting
-  at-same zero i k = start-same i k
-  at-same (suc j) i k =
-      let below = keeper-facts s a sound i k .0 in
-      at-next s a i j below
-      ∙ ap (λ b. closing b .board)
-      (ap (λ b. takeAll (told s a i j) b (h .plan .n)) (at-same j i k)
-      ∙ all-same (told s a i j) (told s′ a i j) (at s′ a j i) (h .plan .n) (λ q l. told-same j i q l (at-same j q)))
-      ∙ sym (at-next s′ a i j below)
+  at-same =
+      at-related _≡_ (λ b c q vs. ap (λ x. taking x q vs .board)) (λ b c. ap (λ x. closing x .board)) s s′ a refl (λ i. keeper s i ≡ true) begun-same told-same
 
   line-same : (i : ℕ) (rest : List ℕ) → i < h .plan .n → boardLine w h (finalBoards w h fs cells) i rest ≡ boardLine w h (finalBoards w h fs cells′) i rest
   unfolding boardLine finalBoards at setting keeper
@@ -101,7 +79,7 @@ module _ (w : Width) (h : Head) (good : GoodHead h) (fs : List Frame) (cells cel
       (λ x. rw x)
       (λ x. rw x
       (ap (λ (b : Board). printed w i (b .rec .decision) (asSet (b .rec .list)) (heldAt (listed (h .plan)) (asSet (b .rec .list))) rest)
-      (at-same (steps (h .plan)) i (rw (lt-ltb i (h .plan .n) l, e, x) refl))))))
+      (at-same (steps (h .plan)) i l (rw (lt-ltb i (h .plan .n) l, e, x) refl))))))
 
   lines-same : (i k : ℕ) → i + k ≤ h .plan .n → printBoards w h (finalBoards w h fs cells) i k ≡ printBoards w h (finalBoards w h fs cells′) i k
   unfolding printBoards
