@@ -20,7 +20,7 @@ const REPLY: usize = 256 + OUT + CELLS * VALUE_SIZE;
 const STEPS: usize = 10000000;
 
 // All that a step gets and leaves.
-#[derive(Drop)]
+#[derive(Clone, Copy)]
 struct State {
     rec: Record,
     cells: [Value; CELLS],

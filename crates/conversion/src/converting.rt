@@ -10,7 +10,7 @@ use rule_c::rule_c::detect_levels;
 use schedule::rounds::{Round, Run, rounds};
 
 // The resolved root, and the list.
-#[derive(Drop)]
+#[derive(Clone, Copy)]
 pub struct Converted {
     pub root: Value,
     pub list: [Slot; 7],

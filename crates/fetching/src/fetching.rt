@@ -12,7 +12,7 @@ use schedule::rounds::{Round, Run};
 use text::lines::{line_end, values_of};
 
 // A frame of the sheet: none, or how many of its bytes were read.
-#[derive(Drop)]
+#[derive(Clone, Copy)]
 pub enum Found {
     Missing,
     Bytes(usize),

@@ -9,7 +9,7 @@ use sheet::head::{COUNT, Head, SETS, WORD};
 use text::lines::number_at;
 
 // A head that was read: the verdict on it, and the head.
-#[derive(Drop)]
+#[derive(Clone, Copy)]
 pub struct ReadHead {
     pub verdict: Verdict,
     pub head: Head,

@@ -5,7 +5,7 @@ ghost use Rattle.input.specs.Input.{arrival};
 use libc::STDIN_FILENO;
 
 // How many bytes came, or that a read failed.
-#[derive(Drop)]
+#[derive(Clone, Copy)]
 pub struct Arrival {
     pub failed: bool,
     pub count: usize,

@@ -10,7 +10,7 @@ use refusals::refusal::Verdict;
 use text::lines::line_end;
 
 // The verdict on a sheet, and the line of a refusal.
-#[derive(Drop)]
+#[derive(Clone, Copy)]
 pub struct Judged {
     pub verdict: Verdict,
     pub line: usize,

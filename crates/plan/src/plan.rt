@@ -12,7 +12,7 @@ use settings::settings::Settings;
 // A list of sets, a dealer, a span (values are below it), a default (a value, put where one is missing or masked) and a
 // depth (0: the tree is not cut).
 // The slots of `sets` past the count are ignored.
-#[derive(Drop)]
+#[derive(Clone, Copy)]
 pub struct Plan {
     pub n: u8,
     pub dealer: u8,
@@ -24,7 +24,7 @@ pub struct Plan {
 }
 
 // The answer to planning, and the plan; beside a refusal the void plan.
-#[derive(Drop)]
+#[derive(Clone, Copy)]
 pub struct Planned {
     pub answer: Verdict,
     pub plan: Plan,

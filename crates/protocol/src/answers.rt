@@ -4,35 +4,35 @@ use refusals::refusal::{Refusal, Verdict};
 use schedule::rounds::{Round, Run};
 
 // Beginning a board: the answer, and the record; beside a refusal the void record.
-#[derive(Drop)]
+#[derive(Clone, Copy)]
 pub struct Begun {
     pub answer: Verdict,
     pub rec: Record,
 }
 
 // The dealer's frame: its two bytes, the high one first.
-#[derive(Drop)]
+#[derive(Clone, Copy)]
 pub enum Dealt {
     Frame(u8, u8),
     Refused(Refusal),
 }
 
 // Handing in: the answer, and the record; beside a refusal the record as it came.
-#[derive(Drop)]
+#[derive(Clone, Copy)]
 pub struct Received {
     pub answer: Verdict,
     pub rec: Record,
 }
 
 // Writing a frame: its length in bytes.
-#[derive(Drop)]
+#[derive(Clone, Copy)]
 pub enum Sent {
     Length(usize),
     Refused(Refusal),
 }
 
 // Closing a round: the round that is open now, or word that the board has decided.
-#[derive(Drop)]
+#[derive(Clone, Copy)]
 pub enum Closing {
     Next(Run, Round),
     Decided,
@@ -40,21 +40,21 @@ pub enum Closing {
 }
 
 // Closing a round: the answer, and the record; beside a refusal the record as it came.
-#[derive(Drop)]
+#[derive(Clone, Copy)]
 pub struct Closed {
     pub answer: Closing,
     pub rec: Record,
 }
 
 // Reading the decision.
-#[derive(Drop)]
+#[derive(Clone, Copy)]
 pub enum Decision {
     Value(codec::value::Value),
     Refused(Refusal),
 }
 
 // Playing a sheet: the bytes written, or the refusal and its line, 0 if it is no line's.
-#[derive(Drop)]
+#[derive(Clone, Copy)]
 pub enum Played {
     Written(usize),
     Refused(Refusal, u16),

@@ -14,7 +14,7 @@ use sheet::head::Head;
 use text::lines::line_end;
 
 // A sheet that was read: what is judged of it, its head, and where its frame lines begin.
-#[derive(Drop)]
+#[derive(Clone, Copy)]
 pub struct ReadSheet {
     pub judged: Judged,
     pub head: Head,

@@ -3,7 +3,7 @@ ghost use Rattle.std.specs.Prelude.{◌≡◌};
 ghost use Rattle.refusals.specs.Outcome.{verdict};
 ghost use Rattle.refusals.specs.Outcome.{and_then};
 
-#[derive(Drop)]
+#[derive(Clone, Copy)]
 pub enum Refusal {
     // n is 0 or above 7.
     Boards,
@@ -56,7 +56,7 @@ pub enum Refusal {
 }
 
 // The answer to admitting sets and to planning.
-#[derive(Drop)]
+#[derive(Clone, Copy)]
 pub enum Verdict {
     Accepted,
     Refused(Refusal),

@@ -5,7 +5,7 @@ use protocol::records::Record;
 use refusals::numbers::number_of;
 use refusals::refusal::{Refusal, Verdict};
 
-#[derive(Drop)]
+#[derive(Clone, Copy)]
 pub struct Said {
     pub number: u8,
     // How many bytes there are; the others are 0.
@@ -16,7 +16,7 @@ pub struct Said {
 }
 
 // What a call says, and the record that it leaves.
-#[derive(Drop)]
+#[derive(Clone, Copy)]
 pub struct Told {
     pub said: Said,
     pub rec: Record,

@@ -7,11 +7,11 @@ use heights::height::{depth_of, height, is_cut};
 use plan::plan::Plan;
 
 // The number of a run, from 1.
-#[derive(Drop)]
+#[derive(Clone, Copy)]
 pub struct Run(pub u8);
 
 // The number of a round within a run, from 1.
-#[derive(Drop)]
+#[derive(Clone, Copy)]
 pub struct Round(pub u8);
 
 // ⌈(n − 3) / (b − 3)⌉; 0 for a depth that no cut tree has.

@@ -8,7 +8,7 @@ pub const BLOCK: usize = 512;
 pub const START: usize = 16;
 
 // Which call or change a block says, and the bytes of its numbers.
-#[derive(Drop)]
+#[derive(Clone, Copy)]
 pub struct Step {
     pub kind: u8,
     pub a: u8,
@@ -21,7 +21,7 @@ pub struct Step {
 }
 
 // What a block has of lengths.
-#[derive(Drop)]
+#[derive(Clone, Copy)]
 pub struct Sizes {
     // The cells that are lent, or the first cell that is changed.
     pub lent: usize,

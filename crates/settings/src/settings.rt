@@ -14,7 +14,7 @@ pub const SHALLOW: u8 = 4;
 pub const DEEP: u8 = 7;
 
 // A dealer, a span, a default and a depth.
-#[derive(Drop)]
+#[derive(Clone, Copy)]
 pub struct Settings {
     pub dealer: u8,
     pub span: Value,

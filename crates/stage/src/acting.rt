@@ -13,7 +13,7 @@ use sets::boards::member;
 use sheet::head::Head;
 
 // What a board does in its turn.
-#[derive(Drop)]
+#[derive(Clone, Copy)]
 pub enum Act {
     Begin,
     Close,

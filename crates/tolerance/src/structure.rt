@@ -6,7 +6,7 @@ ghost use Rattle.tolerance.specs.Places.{place_says, found_at};
 use sets::boards::within;
 
 // The place of a listed set, from 0, or word that there is none.
-#[derive(Drop)]
+#[derive(Clone, Copy)]
 pub enum Place {
     At(usize),
     Nowhere,
