@@ -8,4 +8,4 @@
 set -eu
 cd "$(dirname "$0")/.."
 sh tests/second/build
-timeout 300 tests/second/target/release/calls target/bin/calls "${1:-5000}" "${2:-1}"
+timeout 300 tests/second/target/release/calls crates/calls/out/calls "${1:-5000}" "${2:-1}"

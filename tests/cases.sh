@@ -12,7 +12,7 @@ wrong=0
 # play NAME SHEET EXPECTED: bench prints EXPECTED, all of it and nothing else.
 play() {
     played=$((played + 1))
-    timeout 20 target/bin/bench <"$2" >"$folder/printed" && cmp "$folder/printed" "$3" && return
+    timeout 20 crates/bench/out/bench <"$2" >"$folder/printed" && cmp "$folder/printed" "$3" && return
     echo "cases: $1 is wrong; printed:"
     cat "$folder/printed"
     wrong=$((wrong + 1))

@@ -10,4 +10,4 @@ set -eu
 cd "$(dirname "$0")/.."
 sh tests/second/build
 timeout 300 sh tests/second/build test >/dev/null
-timeout 600 tests/second/target/release/compare target/bin/bench "${1:-20000}" "${2:-1}"
+timeout 600 tests/second/target/release/compare crates/bench/out/bench "${1:-20000}" "${2:-1}"

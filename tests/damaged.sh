@@ -60,7 +60,7 @@ hurt one-byte-head $deep sed '1s/.*/070200000400041F2B26381F/'
 hurt larger-set-last $deep sed '1s/.*/070002000000040000042B26381F1F/'
 hurt repeated-sets $long sed '1s/.*/070002000000040000082B2B2638381F1F1F1F/'
 hurt last-of-32 $deep sh -c 'printf 07000200000004000020; head -c 62 /dev/zero | tr "\0" 0; echo 1F1F; tail -n +2'
-hurt nonsense $deep head -c 3000 target/bin/bench
+hurt nonsense $deep head -c 3000 crates/bench/out/bench
 
 played=0
 wrong=0
@@ -68,7 +68,7 @@ for sheet in "$folder"/*.sheet; do
     name=$(basename "$sheet" .sheet)
     played=$((played + 1))
     timeout 60 tests/second/target/release/play <"$sheet" >"$folder/expected"
-    timeout 120 valgrind -q --error-exitcode=9 target/bin/bench <"$sheet" >"$folder/printed"
+    timeout 120 valgrind -q --error-exitcode=9 crates/bench/out/bench <"$sheet" >"$folder/printed"
     status=$?
     if [ "$status" -ne 0 ] || ! cmp "$folder/printed" "$folder/expected"; then
         echo "damaged: $name is wrong (status $status); printed:"

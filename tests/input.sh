@@ -23,8 +23,8 @@ for name in case-7 default-masked mistake-OddFilled mistake-OddRoundedDown named
     unequal-b4-n7-run2 wide-dealer; do
     sheet=tests/corpus/$name.sheet
     played=$((played + 1))
-    timeout 20 target/bin/bench <"$sheet" >"$folder/expected"
-    timeout 120 valgrind -q --error-exitcode=9 target/bin/bench <"$sheet" >"$folder/printed" 2>"$folder/errors"
+    timeout 20 crates/bench/out/bench <"$sheet" >"$folder/expected"
+    timeout 120 valgrind -q --error-exitcode=9 crates/bench/out/bench <"$sheet" >"$folder/printed" 2>"$folder/errors"
     status=$?
     if [ "$status" -ne 0 ] || [ -s "$folder/errors" ] || ! cmp "$folder/printed" "$folder/expected"; then
         echo "input: $name under valgrind is wrong (status $status); standard error:"

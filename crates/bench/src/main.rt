@@ -1,4 +1,6 @@
 // Plays the sheet on standard input; prints the lines of the boards outside F, or the refusal.
+#![tactic(auto)]
+
 ghost use Rattle.std.specs.Prelude.{cond, [], ltb, length};
 ghost use Rattle.codec.specs.Codec.{current};
 ghost use Rattle.sheet.specs.Playing.{bench_prints};
@@ -6,11 +8,11 @@ ghost use Rattle.bench.specs.Printing.{Prints};
 
 use codec::value::Value;
 use input::input::read_sheet;
-use libc::{STDERR_FILENO, STDOUT_FILENO};
 use plan::plan::Plan;
 use playing::playing::play;
 use protocol::limits::{CELLS, OUTPUT, SHEET};
 use reports::reporting::report;
+use std::io::Write;
 
 // What is printed for a sheet: how many bytes of the output. Nothing if a refusal does not fit.
 fn print_sheet(text: &[u8], cells: &mut [Value], out: &mut [u8]) -> usize
@@ -20,19 +22,23 @@ fn print_sheet(text: &[u8], cells: &mut [Value], out: &mut [u8]) -> usize
     report(answer, out)
 }
 
-fn main() {
+fn main(rt: HostRuntime) {
     // One byte above the longest sheet, so that a longer one is told from it.
     let mut text = [0u8; SHEET + 1];
     let mut cells = [Plan::BLANK; CELLS];
     let mut out = [0u8; OUTPUT];
-    let arrival = read_sheet(&mut text);
+    let arrival = read_sheet(rt.stdin(), &mut text);
     if arrival.failed {
-        io::write_all(STDERR_FILENO, b"bench: a read from standard input failed\n");
+        let _ = rt
+            .stderr()
+            .write_all(b"bench: a read from standard input failed\n");
         return;
     }
     let length = arrival.count;
     let k = print_sheet(&text[0..length], &mut cells, &mut out);
-    if !io::write_all(STDOUT_FILENO, &out[0..k]) {
-        io::write_all(STDERR_FILENO, b"bench: a write to standard output failed\n");
+    if rt.stdout().write_all(&out[0..k]).is_err() {
+        let _ = rt
+            .stderr()
+            .write_all(b"bench: a write to standard output failed\n");
     }
 }

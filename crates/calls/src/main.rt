@@ -1,13 +1,15 @@
 // Makes the calls of a script on standard input, each on what the call before left, and tells after each its answer,
 // the record, the output and the cells. tests/second/src/script.rs has the form of a script.
+#![tactic(auto)]
+
 use beginning::beginning::void;
 use codec::value::{VALUE_SIZE, Value, value_of};
 use damage::changing::change;
-use libc::{STDIN_FILENO, STDOUT_FILENO};
 use making::making::call;
 use protocol::records::Record;
 use saying::said::{Told, taken};
 use script::steps::{BLOCK, START, Step, sizes_of, step_of};
+use std::io::{Read, Stdout, Write};
 use telling::reply::append_told;
 
 // The cells of seven boards, and a surplus.
@@ -81,22 +83,22 @@ fn act(step: Step, block: [u8; BLOCK], r: Record, cells: &mut [Value], out: &mut
 }
 
 // Tells what a step left.
-fn tell(block: [u8; BLOCK], told: Told, out: &[u8], cells: &[Value]) -> bool {
+fn tell(mut stdout: Stdout, block: [u8; BLOCK], told: Told, out: &[u8], cells: &[Value]) -> bool {
     let sizes = sizes_of(block, cells.len(), out.len());
     let shown = sizes.shown;
     let mut reply = [0u8; REPLY];
     let end = append_told(&mut reply, told, out, &cells[0..shown]);
-    io::write_all(STDOUT_FILENO, &reply[0..end])
+    stdout.write_all(&reply[0..end]).is_ok()
 }
 
 // One step, told.
-fn take_step(block: [u8; BLOCK], state: State) -> State {
+fn take_step(stdout: Stdout, block: [u8; BLOCK], state: State) -> State {
     let step = step_of(block);
     let before = before_step(step, state);
     let mut cells = before.cells;
     let mut out = before.out;
     let left = act(step, block, before.rec, &mut cells, &mut out);
-    let told = tell(block, left, &out, &cells);
+    let told = tell(stdout, block, left, &out, &cells);
     let rec = left.rec;
     State {
         rec: rec,
@@ -106,16 +108,16 @@ fn take_step(block: [u8; BLOCK], state: State) -> State {
     }
 }
 
-fn main() {
+fn main(rt: HostRuntime) {
     let mut block = [0u8; BLOCK];
     let mut state = start(0, 0);
     let mut i: usize = 0;
     while i < STEPS {
-        let count = io::read_full(STDIN_FILENO, &mut block);
-        if count < BLOCK {
+        // The input ends, also inside a block, or the read fails.
+        if rt.stdin().read_exact(&mut block).is_err() {
             return;
         }
-        state = take_step(block, state);
+        state = take_step(rt.stdout(), block, state);
         if !state.told {
             return;
         }

@@ -1,2 +1,4 @@
 // Reading standard input.
+#![tactic(auto)]
+
 pub mod input;

@@ -1,13 +1,16 @@
 // Closes the largest round, round 7 of seven boards with 1,957 cells, a hundred times; writes the decision and the list.
+#![tactic(auto)]
+
 use beginning::beginning::begin;
 use closing::closing::close;
 use codec::value::{BLANK, Value, high_byte, low_byte};
-use libc::STDOUT_FILENO;
 use listing::listing::as_set;
 use plan::plan::Plan;
 use protocol::limits::PART;
 use schedule::rounds::Round;
 use settings::settings::Settings;
+use std::io;
+use std::io::Write;
 
 // Cells of many values, from the largest down.
 fn scatter(cells: &mut [Value]) {
@@ -18,7 +21,7 @@ fn scatter(cells: &mut [Value]) {
     }
 }
 
-fn main() {
+fn main(rt: HostRuntime) -> io::Result<()> {
     // The one set that makes seven levels stands last of 32.
     let mut sets = [1u8; 32];
     sets[31] = 63;
@@ -46,5 +49,5 @@ fn main() {
         out[2] = as_set(list);
         i += 1;
     }
-    io::write_all(STDOUT_FILENO, &out);
+    rt.stdout().write_all(&out)
 }

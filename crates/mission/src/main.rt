@@ -1,17 +1,20 @@
 // One board's session in flight: board 1 of four, whose dealer, board 0, tells board 3 another value.
+#![tactic(auto)]
+
 use beginning::beginning::begin;
 use codec::value::{BLANK, high_byte, low_byte};
 use deciding::deciding::decide;
 use flight::lent::close_own;
-use libc::STDOUT_FILENO;
 use listing::listing::as_set;
 use plan::plan::Plan;
 use protocol::answers::Decision;
 use receiving::receiving::receive;
 use sending::sending::send;
 use settings::settings::Settings;
+use std::io;
+use std::io::Write;
 
-fn main() {
+fn main(rt: HostRuntime) -> io::Result<()> {
     let sets = [1u8, 2, 4, 8];
     let settings = Settings {
         dealer: 0,
@@ -50,5 +53,5 @@ fn main() {
         low_byte(decision),
         as_set(list),
     ];
-    io::write_all(STDOUT_FILENO, &out);
+    rt.stdout().write_all(&out)
 }
