@@ -14,7 +14,7 @@ use Rattle.sets.specs.Only.{same_list}
 use Rattle.sets.specs.Sets.{member}
 use Rattle.sets.proofs.Tests.{cases, clash, and_l, and_r, and-true, or-true, not_t, true-not}
 use Rattle.sets.proofs.Search.{any_of}
-use Rattle.refusals.specs.Outcome.{Outcome, taken}
+use Rattle.refusals.specs.Outcome.{Outcome}
 use Rattle.schedule.specs.declared.rounds.Run.{Run}
 use Rattle.schedule.specs.declared.rounds.Round.{Round}
 use Rattle.protocol.specs.Nodes.{due}

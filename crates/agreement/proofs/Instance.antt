@@ -27,7 +27,7 @@ use Rattle.tree.specs.Labels.{Label, occurs}
 use Rattle.theory.specs.Tree as T
 use Rattle.theory.specs.Tree.{Node, root, child}
 use Rattle.theory.proofs.Plans.{good}
-use Rattle.protocol.specs.Nodes.{read, internal, nodes, inner}
+use Rattle.protocol.specs.Nodes.{read, internal, nodes}
 use Rattle.protocol.proofs.Nodes.{no_node, root-node, node-root, node-has, node-inv, inner-has, inner-inv, internal-tol, internal-has}
 use Rattle.sets.specs.Tabulate.{tabulate}
 use Rattle.sets.proofs.Tabulated.{tabulate-at}

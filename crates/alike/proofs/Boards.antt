@@ -19,7 +19,6 @@ use Rattle.tree.specs.Places.{cell_count}
 use Rattle.tree.specs.Cells.{store}
 use Rattle.protocol.specs.declared.records.Record.{Record}
 use Rattle.protocol.specs.declared.records.Entry.{Entry}
-use Rattle.protocol.specs.declared.records.Entry.TheVariants as Entry
 use Rattle.protocol.specs.declared.records.Slot.{Slot}
 use Rattle.protocol.specs.Listing.{entry_at, level_of, as_set}
 use Rattle.protocol.specs.Records.{marked, advanced, run_ended}

@@ -1,2 +1,4 @@
 // Beginning a board.
+#![tactic(auto)]
+
 pub mod beginning;

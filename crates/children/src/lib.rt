@@ -1,2 +1,4 @@
 // Rule C at a node: what its resolved children say.
+#![tactic(auto)]
+
 pub mod children;

@@ -1,2 +1,4 @@
 // Closing a round.
+#![tactic(auto)]
+
 pub mod closing;

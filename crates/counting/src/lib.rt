@@ -1,2 +1,4 @@
 // Counting cells, for programs that test.
+#![tactic(auto)]
+
 pub mod counting;

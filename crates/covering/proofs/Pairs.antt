@@ -11,7 +11,6 @@ use lib.Dec.{ltb}
 use lib.ListN.{length, get_or}
 use lib.Pow.{ones_lt, pow_mono}
 use borrow.Author.Tests.{ltb-true, ltb-false, lt-ltb}
-use Rattle.sets.specs.Search.{first}
 use Rattle.sets.specs.Sets.{member, union, within, boards}
 use Rattle.sets.specs.Structure.{tolerated}
 use Rattle.holders.specs.Holders.{holder_in, holds, Asked}

@@ -1,2 +1,4 @@
 // Do three listed sets cover all boards?
+#![tactic(auto)]
+
 pub mod covering;

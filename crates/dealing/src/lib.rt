@@ -1,2 +1,4 @@
 // The dealer's frame.
+#![tactic(auto)]
+
 pub mod dealing;

@@ -1,2 +1,4 @@
 // Reading the decision.
+#![tactic(auto)]
+
 pub mod deciding;

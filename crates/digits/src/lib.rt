@@ -1,2 +1,4 @@
 // A byte written as two digits.
+#![tactic(auto)]
+
 pub mod writing;

@@ -18,7 +18,6 @@ use Rattle.positions.proofs.HasRound.{plan-round}
 use Rattle.plan.specs.declared.plan.Plan.{Plan}
 use Rattle.protocol.specs.declared.records.Rule.{Rule}
 use Rattle.protocol.specs.declared.records.Entry.{Entry}
-use Rattle.protocol.specs.declared.records.Entry.TheVariants as Entry
 use Rattle.protocol.specs.declared.records.Slot.{Slot}
 use Rattle.protocol.specs.declared.records.Record.{Record}
 use Rattle.protocol.specs.Listing.{entry_at, level_of}

@@ -5,7 +5,6 @@ use Rattle.schedule.specs.declared.rounds.Run.{Run}
 use Rattle.schedule.specs.declared.rounds.Round.{Round}
 use Rattle.positions.specs.Positions.{is_round}
 use Rattle.protocol.specs.declared.records.Entry.{Entry}
-use Rattle.protocol.specs.declared.records.Entry.TheVariants as Entry
 use Rattle.protocol.specs.declared.records.Slot.{Slot}
 use Rattle.protocol.specs.Listing.{entry_at, level_of}
 

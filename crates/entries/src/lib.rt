@@ -1,2 +1,4 @@
 // What number 12 asks of the entries of a list.
+#![tactic(auto)]
+
 pub mod entries;

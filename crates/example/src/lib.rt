@@ -1,1 +1,2 @@
 // A fair list of calls with a lying board: definitions and proofs only.
+#![tactic(auto)]

@@ -1,2 +1,4 @@
 // The fields of a head.
+#![tactic(auto)]
+
 pub mod fields;

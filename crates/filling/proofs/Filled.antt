@@ -1,6 +1,6 @@
 -- Filling a level: what is missing of the frames that are due, from board to board, and the board's own frame.
 -- Assumes nothing.
-use Prim.Native.Nat.{ℕ, ◌+◌, ◌-◌, ◌<◌}
+use Prim.Native.Nat.{ℕ, ◌+◌, ◌<◌}
 use mathlib.Core.Path.{◌≡◌, refl, sym, ap, ◌∙◌}
 use mathlib.Core.Logic.{◌≢◌}
 use mathlib.Core.Bool.{Bool, true, false, not, ◌&&◌, cond}
@@ -15,7 +15,7 @@ use Rattle.sets.proofs.Tests.{cases}
 use Rattle.plan.specs.declared.plan.Plan.{Plan}
 use Rattle.schedule.specs.declared.rounds.Round.{Round}
 use Rattle.tree.specs.Labels.{Label}
-use Rattle.protocol.specs.Nodes.{sent, due, frame}
+use Rattle.protocol.specs.Nodes.{sent, due}
 use Rattle.protocol.specs.Rounds.{fill, fill_missing}
 use Rattle.frames.specs.Nodes.{Standing}
 use Rattle.frames.proofs.Due.{due-own, due-is}

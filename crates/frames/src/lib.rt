@@ -1,2 +1,4 @@
 // The frames of a round: which are due, and writing one.
+#![tactic(auto)]
+
 pub mod writing;

@@ -1,2 +1,4 @@
 // The levels of a plan's tree.
+#![tactic(auto)]
+
 pub mod height;

@@ -1,2 +1,4 @@
 // The table of holders of a list of sets.
+#![tactic(auto)]
+
 pub mod table;

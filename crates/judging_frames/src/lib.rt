@@ -1,2 +1,4 @@
 // All frame lines of a sheet, judged in order.
+#![tactic(auto)]
+
 pub mod lines;

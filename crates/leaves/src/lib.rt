@@ -1,2 +1,4 @@
 // Which nodes are leaves, and what a leaf resolves to.
+#![tactic(auto)]
+
 pub mod leaf;

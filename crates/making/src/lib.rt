@@ -1,2 +1,4 @@
 // Making the calls of a script.
+#![tactic(auto)]
+
 pub mod making;

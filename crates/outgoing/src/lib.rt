@@ -1,2 +1,4 @@
 // The frame of a board outside F.
+#![tactic(auto)]
+
 pub mod written;

@@ -1,2 +1,4 @@
 // Playing a sheet.
+#![tactic(auto)]
+
 pub mod playing;

@@ -1,2 +1,4 @@
 // Does a plan have a round of a run?
+#![tactic(auto)]
+
 pub mod positions;

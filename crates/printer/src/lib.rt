@@ -1,2 +1,4 @@
 // What the bench prints.
+#![tactic(auto)]
+
 pub mod printing;

@@ -23,7 +23,6 @@ use Rattle.tree.specs.Cells.{cell_at}
 use Rattle.tree.proofs.Labels.{no_label, root-inv, label-inv}
 use Rattle.protocol.specs.Nodes.{read, internal, inner}
 use Rattle.protocol.specs.declared.records.Rule.{Rule}
-use Rattle.protocol.specs.declared.records.Rule.TheVariants as Rule
 use Rattle.protocol.specs.declared.records.Slot.{Slot}
 use Rattle.protocol.specs.Listing.{level_of}
 use Rattle.protocol.specs.Detection.{vote, resolve, resolve_root, detect_levels}

@@ -15,7 +15,6 @@ use Rattle.schedule.specs.declared.rounds.Round.{Round}
 use Rattle.schedule.specs.Schedule.{rounds}
 use Rattle.tree.specs.Labels.{Label, last}
 use Rattle.protocol.specs.declared.records.Rule.{Rule}
-use Rattle.protocol.specs.declared.records.Rule.TheVariants as Rule
 use Rattle.protocol.specs.declared.records.Slot.{Slot}
 use Rattle.protocol.specs.Listing.{join, as_set}
 use Rattle.protocol.specs.Nodes.{inner}

@@ -23,7 +23,6 @@ use Rattle.schedule.specs.Schedule.{rounds, has_round}
 use Rattle.schedule.proofs.Steps.{Has, has-round, round-has}
 use Rattle.protocol.specs.declared.records.Rule.{Rule}
 use Rattle.protocol.specs.declared.records.Entry.{Entry}
-use Rattle.protocol.specs.declared.records.Entry.TheVariants as Entry
 use Rattle.protocol.specs.declared.records.Slot.{Slot}
 use Rattle.protocol.specs.Listing.{unlisted, no_entries, entry_at, has_entry, level_of, join, as_set}
 use Rattle.protocol.specs.Calls.{good_entry}

@@ -9,7 +9,6 @@ use Rattle.refusals.specs.Outcome.{Outcome, taken, refused, and_then}
 use Rattle.plan.specs.Calls.{judged, void_plan}
 use Rattle.tree.specs.Places.{cell_count}
 use Rattle.protocol.specs.declared.records.Entry.{Entry}
-use Rattle.protocol.specs.declared.records.Entry.TheVariants as Entry
 use Rattle.protocol.specs.declared.records.Record.{Record}
 use Rattle.protocol.specs.Listing.{no_entries, entry_at, level_of, as_set}
 use Rattle.protocol.specs.Records.{standing_at}

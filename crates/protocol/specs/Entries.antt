@@ -4,7 +4,6 @@ use Rattle.schedule.specs.declared.rounds.Run.{Run}
 use Rattle.schedule.specs.declared.rounds.Round.{Round}
 use Rattle.schedule.specs.Schedule.{rounds}
 use Rattle.protocol.specs.declared.records.Rule.{Rule}
-use Rattle.protocol.specs.declared.records.Rule.TheVariants as Rule
 use Rattle.protocol.specs.declared.records.Entry.TheVariants as Entry
 use Rattle.protocol.specs.declared.records.Slot.{Slot}
 use Rattle.protocol.specs.declared.records.Record.{Record}

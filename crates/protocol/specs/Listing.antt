@@ -7,9 +7,7 @@ use Rattle.sets.specs.Tabulate.{tabulate}
 use Rattle.schedule.specs.declared.rounds.Run.{Run}
 use Rattle.schedule.specs.declared.rounds.Round.{Round}
 use Rattle.protocol.specs.declared.records.Rule.{Rule}
-use Rattle.protocol.specs.declared.records.Rule.TheVariants as Rule
 use Rattle.protocol.specs.declared.records.Entry.{Entry}
-use Rattle.protocol.specs.declared.records.Entry.TheVariants as Entry
 use Rattle.protocol.specs.declared.records.Slot.{Slot}
 
 -- The slot of a board that is not listed, and the list that names nobody.

@@ -1,5 +1,5 @@
 -- What happens to a board's record and cells in a round, when no call is turned down.
-use Rattle.std.specs.Prelude.{ℕ, zero, suc, ◌+◌, ◌-◌, not, ◌&&◌, cond, List, [], ◌∷◌, ◌++◌, eqb, ltb, length, drop, replicate}
+use Rattle.std.specs.Prelude.{ℕ, zero, suc, ◌-◌, not, ◌&&◌, cond, List, [], ◌∷◌, ◌++◌, eqb, ltb, length, drop, replicate}
 use Rattle.codec.specs.Codec.{Width, current, blank}
 use Rattle.sets.specs.Sets.{member}
 use Rattle.plan.specs.declared.plan.Plan.{Plan}

@@ -1,2 +1,4 @@
 // Handing in a frame.
+#![tactic(auto)]
+
 pub mod receiving;

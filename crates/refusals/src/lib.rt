@@ -1,3 +1,5 @@
 // The refusals of all calls, with their numbers.
+#![tactic(auto)]
+
 pub mod numbers;
 pub mod refusal;

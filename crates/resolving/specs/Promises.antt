@@ -1,5 +1,5 @@
 -- What resolving asks, and what it leaves. A middle layer: what a node resolves to is `resolve` of the protocol.
-use Rattle.std.specs.Prelude.{ℕ, ◌+◌, ◌-◌, ◌≤◌, ◌<◌, ◌≡◌, ◌≢◌, List, length}
+use Rattle.std.specs.Prelude.{ℕ, ◌+◌, ◌≤◌, ◌<◌, ◌≡◌, ◌≢◌, List, length}
 use Rattle.codec.specs.Codec.{current, blank}
 use Rattle.holders.specs.Holders.{holder_table}
 use Rattle.plan.specs.declared.plan.Plan.{Plan}

@@ -1,2 +1,4 @@
 // Resolving every node in place.
+#![tactic(auto)]
+
 pub mod resolving;

@@ -1,2 +1,4 @@
 // Rule C.
+#![tactic(auto)]
+
 pub mod rule_c;

@@ -1,2 +1,4 @@
 // Rule G at a node.
+#![tactic(auto)]
+
 pub mod rule_g;

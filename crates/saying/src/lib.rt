@@ -1,2 +1,4 @@
 // What the calls answer, as numbers.
+#![tactic(auto)]
+
 pub mod said;

@@ -1,2 +1,4 @@
 // Levels, rounds and runs of a plan.
+#![tactic(auto)]
+
 pub mod rounds;

@@ -1,2 +1,4 @@
 // Reading a script of calls, step by step.
+#![tactic(auto)]
+
 pub mod steps;

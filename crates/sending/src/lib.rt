@@ -1,3 +1,5 @@
 // Writing a frame.
+#![tactic(auto)]
+
 mod later;
 pub mod sending;

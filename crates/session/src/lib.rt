@@ -1,2 +1,4 @@
 // All rounds of all runs, for all boards of a session.
+#![tactic(auto)]
+
 pub mod rounds;

@@ -1,2 +1,4 @@
 // Sets of boards.
+#![tactic(auto)]
+
 pub mod boards;

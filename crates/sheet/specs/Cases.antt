@@ -12,9 +12,7 @@ use Rattle.plan.specs.Calls.{planned}
 use Rattle.protocol.specs.Limits.{output_needed, cells_needed}
 use Rattle.protocol.specs.Nodes.{nodes}
 use Rattle.protocol.specs.declared.records.Rule.{Rule}
-use Rattle.protocol.specs.declared.records.Rule.TheVariants as Rule
 use Rattle.protocol.specs.declared.records.Entry.{Entry}
-use Rattle.protocol.specs.declared.records.Entry.TheVariants as Entry
 use Rattle.protocol.specs.declared.records.Slot.{Slot}
 use Rattle.protocol.specs.Listing.{no_entries, entry_at, join}
 use Rattle.protocol.specs.Records.{standing_at, with_marks}

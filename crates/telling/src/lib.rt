@@ -1,2 +1,4 @@
 // What is told after each step of a script, as bytes.
+#![tactic(auto)]
+
 pub mod reply;

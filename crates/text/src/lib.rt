@@ -1,2 +1,4 @@
 // The lines of a sheet.
+#![tactic(auto)]
+
 pub mod lines;

@@ -123,9 +123,9 @@ module _ (p : Plan) (q i : ℕ) (holders : List ℕ) (table : holders ≡ holder
   listed-few = omega (arith, length-take p.count p.sets)
 
   -- Above level R the test of the boards is that of the label.
-  is_open : (α : Label) → mask α < 128 → length α < (rounds p).0 → is_open holders (bit_or (single q) (barred p i)) (mask α) ≡ carries p q i α
+  is_open_lem : (α : Label) → mask α < 128 → length α < (rounds p).0 → is_open holders (bit_or (single q) (barred p i)) (mask α) ≡ carries p q i α
   unfolding is_open is_internal
-  is_open α h l =
+  is_open_lem α h l =
       let held = table-tolerated (listed p) holders (mask α) table listed-few h in
       let out = single-apart q (mask α) h ∙ ap not (mask-member q α) in
       let apart : eqb (bit_and (mask α) (bit_or (single q) (barred p i))) 0 ≡ (not (occurs q α) && eqb (bit_and (mask α) (barred p i)) 0) =
@@ -145,6 +145,6 @@ module _ (p : Plan) (q i : ℕ) (holders : List ℕ) (table : holders ≡ holder
   unfolding rank last
   walked-carried level most ld low high below_top =
       walked-below (is_open holders (bit_or (single q) (barred p i))) (carries p q i) p.n (p.n - level) level most (omega arith)
-      (λ α h l. is_open α h (omega arith))
+      (λ α h l. is_open_lem α h (omega arith))
       (level - 1) (p.dealer ∷ []) (omega arith) (omega arith) (root-mask p.dealer (omega arith))
       ∙ ap (map (code p.n)) (below-carried p q i (level - 1) ∙ ap (carried p q i) (let z : suc (level - 1) ≡ level = omega arith in z))

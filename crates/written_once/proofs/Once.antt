@@ -17,7 +17,6 @@ use Rattle.schedule.specs.declared.rounds.Run.{Run}
 use Rattle.schedule.specs.declared.rounds.Round.{Round}
 use Rattle.protocol.specs.declared.records.Rule.{Rule}
 use Rattle.protocol.specs.declared.records.Entry.{Entry}
-use Rattle.protocol.specs.declared.records.Entry.TheVariants as Entry
 use Rattle.protocol.specs.declared.records.Slot.{Slot}
 use Rattle.protocol.specs.Listing.{no_entries, entry_at, has_entry}
 use Rattle.protocol.specs.Rounds.{Board, receive, close}

@@ -1,1 +1,2 @@
 // Request d: an entry is written once. Definitions and proofs only.
+#![tactic(auto)]

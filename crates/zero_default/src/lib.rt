@@ -1,1 +1,2 @@
 // Request b: a plan with the default 0 gives what the base gave. Definitions and proofs only.
+#![tactic(auto)]

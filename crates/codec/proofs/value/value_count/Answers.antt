@@ -1,0 +1,11 @@
+use mathlib.Core.Path.{sym, ap}
+use lib.ListN.{length}
+use Rattle.codec.proofs.Codec.{decode-even, decode-odd}
+use Rattle.codec.proofs.value.value_count.Goals as goal
+
+-- `value_count` meets its contract.
+pub returns-then-frame-eq0 : goal.returns-then-frame-eq0
+returns-then-frame-eq0 c = sym (decode-even c.args.frame.now c.if-frame-eq0.true)
+
+pub returns : goal.returns
+returns c = sym (ap length (decode-odd c.args.frame.now c.if-frame-eq0.false))
