@@ -23,6 +23,7 @@ pub struct Settings {
 }
 
 // 6, 7, 26, 8.
+#[tactic(auto, unfolding(refusals::specs::Outcome::verdict, refusals::specs::Outcome::refusal, crate::specs::Planning::judge_settings, crate::specs::Planning::is_depth))]
 pub fn judge_settings(n: u8, settings: Settings) -> Verdict
     ensures { verdict result ≡ judge_settings n settings }
 {
