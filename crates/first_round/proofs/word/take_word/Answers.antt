@@ -21,7 +21,7 @@ unfolding verdict refusal
 returns-then-again c =
     let a = c.args in
     takes-again a.plan a.q a.list a.marks (eqb a.q a.plan.dealer) ([] ∷ []) (decode current a.frame.now) a.cells.now
-    (eq-eqb _ _ c.if-q-dealer.false) (sym c.member-again.ensures ∙ c.if-again.true)
+    (eq-eqb a.q a.plan.dealer (omega arith)) (sym c.member-again.ensures ∙ c.if-again.true)
 
 pub bounds-cells-0 : goal.bounds-cells-0
 bounds-cells-0 c =

@@ -1,6 +1,7 @@
 -- `write_later` meets its contract: 16, 17, and the values of the nodes that the frame carries.
 use Prim.Native.Nat.{◌-◌}
-use mathlib.Core.Path.{refl, sym, ◌∙◌}
+use mathlib.Core.Path.{◌≡◌, refl, sym, ◌∙◌}
+use mathlib.Core.Bool.{false}
 use native.Mathlib.Omega.{arith}
 use lib.ListN.{take, length-take}
 use borrow.Author.Rules.{rules}
@@ -30,8 +31,9 @@ pub returns-then-out-length : goal.returns-then-out-length
 unfolding sent_says refusal
 returns-then-out-length c =
     let a = c.args in
+    let busy : c.is_idle-idle.result ≡ false = search rules in
     later-short c.requires.standing c.requires.later a.cells.now a.out.now c.carried_nodes-count.result c.carried_nodes-count.ensures.counted
-    (sym c.is_idle-idle.ensures ∙ c.if-idle.false) c.if-out-length.true
+    (sym c.is_idle-idle.ensures ∙ busy) c.if-out-length.true
 
 pub slice_bounds-write_at-end : goal.slice_bounds-write_at-end
 slice_bounds-write_at-end c =
