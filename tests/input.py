@@ -133,7 +133,7 @@ def writing():
         case("standard output full in the middle", b"", WRITE, stdin=given, stdout=file, preexec_fn=limit)
         file.seek(0)
         check("what came before it was full", file.read(), PRINTED[:4])
-    # Nobody reads: the write fails, also where the signal is not ignored at the start, since the start of a program ignores it.
+    # Nobody reads: the write fails, also where the signal is not ignored before, since the start of a program ignores it.
     for action, err, status in (signal.SIG_DFL, WRITE, 0), (signal.SIG_IGN, WRITE, 0):
         unread, out = os.pipe()
         os.close(unread)
