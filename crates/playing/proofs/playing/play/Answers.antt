@@ -1,5 +1,6 @@
 -- `play` meets its contract: 20, 17, 11, then the sheet.
 use mathlib.Core.Path.{sym, ap, ◌∙◌}
+use native.Mathlib.Omega.{arith}
 use Rattle.refusals.specs.Outcome.{refusal, verdict}
 use Rattle.refusals.proofs.Outcomes.{refusal-number}
 use Rattle.protocol.specs.Answers.{played_says}
@@ -18,13 +19,13 @@ pub returns-then-out-lt-OUTPUT : goal.returns-then-out-lt-OUTPUT
 unfolding played_says refusal wrong_at refused_play
 returns-then-out-lt-OUTPUT c =
     let a = c.args in
-    short-output a.text.now a.cells.now a.out.now c.if-text-gt-SHEET.false c.if-out-lt-OUTPUT.true
+    short-output a.text.now a.cells.now a.out.now c.if-text-gt-SHEET.false (omega (arith, c.if-out-lt-OUTPUT.true))
 
 pub returns-then-cells-lt-CELLS : goal.returns-then-cells-lt-CELLS
 unfolding played_says refusal wrong_at refused_play
 returns-then-cells-lt-CELLS c =
     let a = c.args in
-    short-cells a.text.now a.cells.now a.out.now c.if-text-gt-SHEET.false c.if-out-lt-OUTPUT.false c.if-cells-lt-CELLS.true
+    short-cells a.text.now a.cells.now a.out.now c.if-text-gt-SHEET.false c.if-out-lt-OUTPUT.false (omega (arith, c.if-cells-lt-CELLS.true))
 
 pub play_sheet-requires : goal.play_sheet-requires
 unfolding verdict
