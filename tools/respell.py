@@ -1,14 +1,14 @@
 #!/usr/bin/env python3
-"""Brings the repository's own words in lower camel case to snake case: `setOf` to `set_of`, `heldAt-none` to `held_at-none`.
+"""Brings the repository's own words in lower camel case to snake case: `setOf` to `set_of`, `setOf-below` to `set_of-below`.
 
 usage: respell.py [--dry] [FOLDER]      FOLDER: the top of a checkout on which port.py ran (here, if left out)
 
-It turns .antt and .rt files of crates/, and names in backticks in README.md and docs/*.md. The must-fail edits
+It turns .antt and .rt files of crates/, and names in backticks in README.md and below docs/. The must-fail edits
 it leaves: their texts are turned with what each means in mind.
 It also renames specs/Contracts.antt of a crate to specs/Promises.antt, with the paths that name it, since Rattle makes a
-module `specs.contracts`, and the crate hex to hexadecimal, since the kit has a library named hex. --dry changes nothing and prints the table.
-It stops, and changes nothing, where two names would fall together; what it only warns of is a word that would now be
-spelled like a parameter, a local, a field or a function of Rust in a file that uses it.
+module `specs.contracts`, and the crate hex to hexadecimal, in crates.txt too, since the kit has a library named hex.
+It stops, and changes nothing, where two names in lower camel case would be one; of a name that stands already, in that
+file or elsewhere, it only warns. The table is always printed; --dry changes nothing.
 """
 import collections
 import pathlib
