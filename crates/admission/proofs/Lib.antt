@@ -1,2 +1,3 @@
 pub mod ThreeCover
 pub mod Admitted
+pub mod Scanned

@@ -7,39 +7,29 @@ ghost use Rattle.admission.specs.Calls.{admitting};
 
 use crate::limits::{BOARDS, SETS};
 use covering::covering::judge_cover;
-use refusals::refusal::{Refusal, Verdict};
+use refusals::refusal::Refusal;
 use sets::boards::{all_boards, within};
 
 // Does a set name a board outside `all`?
 fn names_other(sets: &[u8], all: u8) -> bool
     ensures { result ≡ any (λ i. not (within (get_or sets.now i 0) all)) (length sets.now) }
 {
-    let mut i = 0;
-    while i < sets.len() {
-        if !within(sets[i], all) {
-            return true;
-        }
-        i += 1;
-    }
-    false
+    sets.iter().any(|&s| !within(s, all))
 }
 
 // Admitting a list of sets: 1, 3, 4 and 5, in order. An empty list tolerates the empty set only.
-pub fn admit(n: u8, sets: &[u8]) -> Verdict
+#[tactic(auto, using(crate::proofs::Scanned::scanned), unfolding(refusals::specs::Outcome::verdict, refusals::specs::Outcome::refusal, crate::specs::Calls::admitting))]
+pub fn admit(n: u8, sets: &[u8]) -> Result<(), Refusal>
     ensures { verdict result ≡ admitting n (length sets.now) sets.now }
 {
-    let count = sets.len();
-    if n == 0 {
-        return Verdict::Refused(Refusal::Boards);
+    if n == 0 || BOARDS < n {
+        return Err(Refusal::Boards);
     }
-    if BOARDS < n {
-        return Verdict::Refused(Refusal::Boards);
-    }
-    if SETS < count {
-        return Verdict::Refused(Refusal::TooManySets);
+    if SETS < sets.len() {
+        return Err(Refusal::TooManySets);
     }
     if names_other(sets, all_boards(n)) {
-        return Verdict::Refused(Refusal::UnknownBoard);
+        return Err(Refusal::UnknownBoard);
     }
     judge_cover(n, sets)
 }

@@ -14,12 +14,7 @@ pub fn clear(plan: Plan, cells: &mut [Value])
     requires { Clearable plan cells.old }
     ensures { cells.new ≡ replicate (cell_count plan.n) (blank current) ++ drop (cell_count plan.n) cells.old }
 {
-    let count = cell_count(plan.n);
-    let mut i: usize = 0;
-    while i < count {
-        cells[i] = Plan::BLANK;
-        i += 1;
-    }
+    cells[..cell_count(plan.n)].fill(Plan::BLANK);
 }
 
 // The root becomes the first cell, all other cells of the board hold the mark.

@@ -8,8 +8,9 @@ use mathlib.Core.List.{List, [], ◌∷◌, ◌++◌, append_assoc}
 use native.Mathlib.Omega.{arith}
 use native.Mathlib.Nat.{div-add-mod'}
 use lib.Dec.{eqb}
-use lib.ListN.{length, get_or, set, take, drop, length-set, length-append}
-use lib.Seq.{take-append_seam, drop-append-add, drop-drop, drop-set-lt, set_split, take_at, length-take-le}
+use lib.ListN.{length, get_or, take, drop}
+use lib.Seq.{take-append_seam, drop-append-add, drop-drop}
+use Rattle.std.specs.Int.{w16, to_be_bytes}
 use borrow.Author.Tests.{eq-eqb, ne_eqb, eqb-true, eqb-false}
 use Rattle.codec.specs.Codec.{Width, one, two, value_size, blank, encode, pairs, decode, number_at, written}
 
@@ -123,23 +124,9 @@ written_next w vs out v i e =
     ∙ sym (append_assoc (encode w vs) (encode w (v ∷ [])) (drop (value_size w * suc i) out))
     ∙ ap (λ x. x ++ drop (value_size w * suc i) out) (sym (encode-append w vs (v ∷ [])))
 
--- The two bytes of value number i, one after the other.
-pub written-pair : (out : List ℕ) (i v : ℕ) → 2 * i + 1 < length out → set (set out (2 * i) (v / 256)) (2 * i + 1) (v % 256) ≡ written two i v out
-unfolding written encode
-written-pair out i v l =
-    let high = set out (2 * i) (v / 256) in
-    let size : length high ≡ length out = length-set out (2 * i) (v / 256) in
-    set_split high (2 * i + 1) (v % 256) (omega arith)
-    ∙ ap₂ (λ x y. x ++ (v % 256 ∷ y))
-    (ap (take (2 * i + 1)) (set_split out (2 * i) (v / 256) (omega arith)) ∙ front)
-    (drop-set-lt (suc (2 * i + 1)) out (2 * i) (v / 256) (omega arith) ∙ ap (λ k. drop k out) (let z : suc (2 * i + 1) ≡ 2 * suc i = omega arith in z))
-    ∙ append_assoc (take (2 * i) out) (v / 256 ∷ []) _
-  where
-    front : take (2 * i + 1) (take (2 * i) out ++ (v / 256 ∷ drop (suc (2 * i)) out)) ≡ take (2 * i) out ++ (v / 256 ∷ [])
-    front =
-        ap (take (2 * i + 1)) (sym (append_assoc (take (2 * i) out) (v / 256 ∷ []) (drop (suc (2 * i)) out)))
-        ∙ take_at (take (2 * i) out ++ (v / 256 ∷ [])) (drop (suc (2 * i)) out) (2 * i + 1)
-        (length-append (take (2 * i) out) (v / 256 ∷ []) ∙ ap (λ k. k + 1) (length-take-le (2 * i) out (omega arith)))
+-- The two bytes of a number as std gives them.
+pub to_be_bytes-pair : (v : ℕ) → v < 65536 → to_be_bytes w16 v ≡ v / 256 ∷ (v % 256 ∷ [])
+to_be_bytes-pair v l = ap (λ h. h ∷ (v % 256 ∷ [])) (let z : v / 256 % 256 ≡ v / 256 = omega arith in z)
 
 -- No number that the bytes of a value write is above the mark; so the mark is below no span.
 pub blank-most : (w : Width) (v : ℕ) → v < 256 ^ value_size w → v ≤ blank w

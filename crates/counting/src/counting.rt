@@ -9,13 +9,5 @@ use codec::value::Value;
 pub fn count_others(cells: &[Value], x: Value) -> usize
     ensures { Bounded result (count (λ i. not (eqb (get_or cells.now i 0) x)) (length cells.now)) (length cells.now) }
 {
-    let mut others: usize = 0;
-    let mut i: usize = 0;
-    while i < cells.len() {
-        if cells[i] != x {
-            others += 1;
-        }
-        i += 1;
-    }
-    others
+    cells.iter().filter(|&&cell| cell != x).count()
 }

@@ -1,3 +1,4 @@
 pub mod Cover
 pub mod Pairs
 pub mod Together
+pub mod Place

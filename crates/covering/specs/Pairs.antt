@@ -1,5 +1,5 @@
 -- A middle layer: number 5 by pairs. The first pair of sets whose other boards are held, and their holder, is the first triple (proofs/Pairs.antt).
-use Rattle.std.specs.Prelude.{ℕ, zero, suc, ◌-◌, ◌≤◌, ◌<◌, ◌≡◌, not, List, ltb, length, get_or}
+use Rattle.std.specs.Prelude.{ℕ, zero, suc, ◌-◌, ◌≤◌, ◌<◌, ◌≡◌, not, cond, List, ltb, length, get_or, Option, Some, None}
 use Rattle.sets.specs.Search.{first}
 use Rattle.sets.specs.Sets.{member, union, set_of}
 use Rattle.sets.specs.Structure.{held_at, tolerated}
@@ -17,6 +17,10 @@ outside n s = set_of (λ q. not (member q s)) n
 -- The boards that the sets at i and j leave.
 unfoldable pub others : ℕ → List ℕ → ℕ → ℕ → ℕ
 others n sets i j = outside n (union (get_or sets i 0) (get_or sets j 0))
+
+-- A place of the list; none where a search came to the list's length.
+unfoldable pub place_in : List ℕ → ℕ → Option ℕ
+place_in sets p = cond (ltb p (length sets)) (Some p) None
 
 -- The place of the first set that holds them; FF if none does.
 unfoldable pub third_held : ℕ → List ℕ → ℕ → ℕ → ℕ

@@ -1,56 +1,43 @@
--- The entries of a list, test by test, and that `good_entries` asks for these of the plan.
+-- All entries of a list, and that `good_entries` asks for these of the plan.
 -- Assumes nothing.
-use Prim.Native.Nat.{ℕ, ◌≤◌, ◌<◌}
+use Prim.Native.Nat.{ℕ}
 use mathlib.Core.Path.{◌≡◌, refl, ap}
-use mathlib.Core.Bool.{Bool, true, false, not, ◌&&◌, and-false, and-true}
+use mathlib.Core.Bool.{Bool, true, not, ◌&&◌}
 use mathlib.Core.List.{List}
 use native.Mathlib.Omega.{arith}
 use lib.Dec.{ltb}
-use borrow.Author.Tests.{le-ltb, lt-ltb}
+use lib.ListN.{length}
 use Rattle.sets.specs.Search.{any}
-use Rattle.sets.proofs.Tests.{clash, is_false, true-not, not_t}
-use Rattle.sets.proofs.Search.{any-true, any_of, any_same}
+use Rattle.sets.proofs.Tests.{clash, is_false, true-not, not_t, not_f, same_test}
+use Rattle.std.specs.List.{list_all}
+use Rattle.std.proofs.lemmas.List.Elements.{All-get_or, All-from_get_or}
+use Rattle.std.proofs.lemmas.List.Sums.{AllPass-from_list_all, list_all-from_AllPass}
+use Rattle.sets.proofs.Search.{any-true, any_false, any_same}
 use Rattle.schedule.specs.declared.rounds.Run.{Run}
 use Rattle.schedule.specs.declared.rounds.Round.{Round}
 use Rattle.schedule.specs.Schedule.{rounds, runs}
-use Rattle.positions.specs.Positions.{is_round}
 use Rattle.positions.proofs.HasRound.{plan-round}
 use Rattle.plan.specs.declared.plan.Plan.{Plan}
-use Rattle.protocol.specs.declared.records.Rule.{Rule}
 use Rattle.protocol.specs.declared.records.Entry.{Entry}
 use Rattle.protocol.specs.declared.records.Slot.{Slot}
 use Rattle.protocol.specs.declared.records.Record.{Record}
-use Rattle.protocol.specs.Listing.{entry_at, level_of}
+use Rattle.protocol.specs.Listing.{entry_at, unlisted, level_of}
 use Rattle.protocol.specs.Calls.{good_entry, good_entries}
 use Rattle.entries.specs.Entries.{is_good_entry, are_good_entries}
 
 module _ (last : Run) (end : Round) where
-  module _ (t : Run) (k : Round) (rule : Rule) (level : ℕ) (of-rule : level ≡ level_of rule) where
-    pub no-level : level < 1 → is_good_entry last end (Entry.Listed t k rule) ≡ false
-    unfolding is_good_entry
-    no-level h = rw (le-ltb 0 (level_of rule) (omega arith)) (simp and-false)
+  abbrev pub good : Slot → Bool
+  good s = is_good_entry last end s.entry
 
-    pub past-level : end.0 ≤ level → is_good_entry last end (Entry.Listed t k rule) ≡ false
-    unfolding is_good_entry
-    past-level h = rw (le-ltb (level_of rule) end.0 (omega arith)) (simp and-false)
-
-    pub good-level : 1 ≤ level → level < end.0 → is_good_entry last end (Entry.Listed t k rule) ≡ is_round last end t k
-    unfolding is_good_entry
-    good-level h l = rw (lt-ltb 0 (level_of rule) (omega arith), lt-ltb (level_of rule) end.0 (omega arith)) (simp and-true)
-
-  module _ (list : List Slot) where
-    abbrev bad : ℕ → Bool
-    bad i = not (is_good_entry last end (entry_at list i))
-
-    pub one-bad : (i : ℕ) → i < 7 → is_good_entry last end (entry_at list i) ≡ false → are_good_entries last end list ≡ false
-    unfolding are_good_entries
-    one-bad i l e = ap not (any_of bad 7 i l (true-not (is_good_entry last end (entry_at list i)) e))
-
-    pub all-good : ((i : ℕ) → i < 7 → is_good_entry last end (entry_at list i) ≡ true) → are_good_entries last end list ≡ true
-    unfolding are_good_entries
-    all-good h =
-        true-not (any bad 7)
-        (is_false (any bad 7) (λ e. let (i, l, t) = any-true bad 7 e in clash (h i l) (not_t (is_good_entry last end (entry_at list i)) t)))
+  pub good-all : (list : List Slot) → length list ≡ 7 → list_all good list ≡ are_good_entries last end list
+  unfolding are_good_entries entry_at
+  good-all list seven =
+      let bad : ℕ → Bool = λ i. not (is_good_entry last end (entry_at list i)) in
+      same_test (list_all good list) (not (any bad 7))
+      (λ t. true-not (any bad 7) (is_false (any bad 7) (λ e. let (i, l, u) = any-true bad 7 e in
+      clash (All-get_or (λ s. good s ≡ true) list i unlisted (omega arith) (AllPass-from_list_all good list t)) (not_t _ u))))
+      (λ t. list_all-from_AllPass good list
+      (All-from_get_or (λ s. good s ≡ true) list unlisted (λ i l. not_f _ (any_false bad 7 (not_t (any bad 7) t) i (omega arith)))))
 
 plan-entry : (p : Plan) (e : Entry) → is_good_entry (runs p) (rounds p) e ≡ good_entry p e
 unfolding is_good_entry good_entry

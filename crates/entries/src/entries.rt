@@ -7,7 +7,8 @@ use positions::positions::is_round;
 use protocol::records::{Entry, Rule, Slot};
 use schedule::rounds::{Round, Run};
 
-// The level of the node at which a rule listed a board.
+// The level of the node at which a rule listed a board. No method: `Rule` is declared in another crate.
+#[tactic(auto, unfolding(protocol::specs::Listing::level_of))]
 fn level_of(rule: Rule) -> u8
     ensures { result ≡ level_of rule }
 {
@@ -18,21 +19,14 @@ fn level_of(rule: Rule) -> u8
 }
 
 // May a record have this entry, where the last run and the last round are these?
+#[tactic(auto, unfolding(crate::specs::Entries::is_good_entry))]
 fn is_good_entry(last: Run, end: Round, entry: Entry) -> bool
     ensures { result ≡ is_good_entry last end entry }
 {
     match entry {
         Entry::Nothing => true,
         Entry::Listed(run, round, rule) => {
-            let level = level_of(rule);
-            let top = end.0;
-            if level < 1 {
-                return false;
-            }
-            if top <= level {
-                return false;
-            }
-            is_round(last, end, run, round)
+            is_round(last, end, run, round) && (1..end.0).contains(&level_of(rule))
         }
     }
 }
@@ -41,14 +35,5 @@ fn is_good_entry(last: Run, end: Round, entry: Entry) -> bool
 pub fn are_good_entries(last: Run, end: Round, list: [Slot; 7]) -> bool
     ensures { result ≡ are_good_entries last end list }
 {
-    let mut i: usize = 0;
-    while i < 7 {
-        let slot = list[i];
-        let entry = slot.entry;
-        if !is_good_entry(last, end, entry) {
-            return false;
-        }
-        i += 1;
-    }
-    true
+    list.iter().all(|slot| is_good_entry(last, end, slot.entry))
 }

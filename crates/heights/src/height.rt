@@ -8,14 +8,11 @@ use plan::plan::Plan;
 use sets::boards::{member, size};
 use tables::listed::slots_used;
 
-// The size of a set that holds board d; 0 if it does not.
+// The size of a set that holds board d; 0 if it does not, which no set with d has: 0 for none is the definition's.
 fn size_with(s: u8, d: u8) -> u8
     ensures { Bounded result (cond (member d s) (size s) 0) 8 }
 {
-    if member(s, d) {
-        return size(s);
-    }
-    0
+    if member(s, d) { size(s) } else { 0 }
 }
 
 // The size of the largest listed set that holds board d; 0 if there is none.
@@ -23,13 +20,8 @@ fn largest_with(sets: &[u8], d: u8) -> u8
     ensures { Bounded result (largest sets.now d) 8 }
 {
     let mut most = 0;
-    let mut i = 0;
-    while i < sets.len() {
-        let k = size_with(sets[i], d);
-        if most < k {
-            most = k;
-        }
-        i += 1;
+    for &s in sets {
+        most = size_with(s, d).max(most);
     }
     most
 }
@@ -45,18 +37,15 @@ pub fn depth_of(plan: Plan) -> u8
 pub fn height(plan: Plan) -> u8
     ensures { result ≡ height plan }
 {
-    let sets = plan.sets;
     let count = slots_used(plan.count);
-    largest_with(&sets[0..count], plan.dealer) + 1
+    largest_with(&plan.sets[..count], plan.dealer) + 1
 }
 
 // Is the tree cut?
+#[tactic(auto, unfolding(crate::specs::Levels::is_cut))]
 pub fn is_cut(plan: Plan) -> bool
     ensures { result ≡ is_cut plan }
 {
     let depth = depth_of(plan);
-    if depth == 0 {
-        return false;
-    }
-    depth < height(plan)
+    depth != 0 && depth < height(plan)
 }

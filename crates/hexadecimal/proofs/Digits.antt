@@ -2,39 +2,28 @@
 -- Assumes nothing.
 use Prim.Native.Nat.{ℕ, zero, suc, ◌+◌, ◌-◌, ◌*◌, ◌/◌, ◌%◌, ◌≤◌, ◌<◌}
 use mathlib.Core.Path.{◌≡◌, refl, sym, ap, ap₂, ◌∙◌}
-use mathlib.Core.Logic.{◌≢◌}
-use mathlib.Core.Bool.{true, false, ◌&&◌}
+use mathlib.Core.Bool.{Bool, true, false, ◌&&◌}
 use mathlib.Core.List.{List, [], ◌∷◌}
-use mathlib.Core.Option
 use mathlib.Core.Option.{Option, some, none}
 use native.Mathlib.Omega.{arith}
-use lib.Dec.{leb}
+use lib.Dec.{leb, eqb}
+use Rattle.std.specs.Option.{is_some}
+use Rattle.std.specs.Prelude as Std
+use Rattle.std.specs.List.{list_all}
 use lib.ListN.{length, get_or, get_or-eq_default}
 use borrow.Author.Tests.{lt-leb, le-leb, leb-true}
-use Rattle.sets.proofs.Tests.{cases, clash, and_r}
+use Rattle.sets.proofs.Tests.{cases, and_r}
 use Rattle.hexadecimal.specs.Hex.{digit, join_byte, bytes_of}
-use Rattle.hexadecimal.specs.Bytes.{digit_or, is_given, is_text, byte_of, byte_at}
+use Rattle.hexadecimal.specs.Bytes.{digit_says, is_given, is_text, byte_of, byte_at}
 
 -- A digit's value, by the character.
-pub digit_low : (c : ℕ) → c < 48 → digit c ≡ none
-unfolding digit
-digit_low c l = rw (lt-leb 48 c l, lt-leb 65 c (omega arith)) refl
-
 pub digit-number : (c : ℕ) → 48 ≤ c → c ≤ 57 → digit c ≡ some (c - 48)
 unfolding digit
 digit-number c l h = rw (le-leb 48 c l, le-leb c 57 h) refl
 
-pub digit-between : (c : ℕ) → 57 < c → c < 65 → digit c ≡ none
-unfolding digit
-digit-between c l h = rw (le-leb 48 c (omega arith), lt-leb c 57 l, lt-leb 65 c h) refl
-
 pub digit-letter : (c : ℕ) → 65 ≤ c → c ≤ 70 → digit c ≡ some (c - 55)
 unfolding digit
 digit-letter c l h = rw (le-leb 48 c (omega arith), lt-leb c 57 (omega arith), le-leb 65 c l, le-leb c 70 h) refl
-
-pub digit-high : (c : ℕ) → 70 < c → digit c ≡ none
-unfolding digit
-digit-high c l = rw (le-leb 48 c (omega arith), lt-leb c 57 (omega arith), le-leb 65 c (omega arith), lt-leb c 70 l) refl
 
 -- A digit is below 16.
 pub digit-small : (c v : ℕ) → digit c ≡ some v → v < 16
@@ -50,72 +39,43 @@ digit-small c v e =
     omega (arith, leb-true c 70 (and_r (leb 65 c) (leb c 70) y)))
     (λ y. let w : none ≡ some v = rw (x, y) at e in let z : ◌≡◌ {A = ℕ} 0 1 = cc in absurd (omega arith)))
 
--- A digit as the code has it.
-module _ (c : ℕ) where
-  pub digit-none : digit_or c ≡ 255 → digit c ≡ none
-  unfolding digit_or
-  digit-none e = go (digit c) refl
-    where
-      go : (o : Option ℕ) → digit c ≡ o → digit c ≡ none
-      go none x = x
-      go (some v) x = absurd (let z : v ≡ 255 = sym (ap (λ o. Option.get_or o 255) x) ∙ e in let y : ⊥ = omega (arith, digit-small c v x) in y)
-
-  pub digit-some : digit_or c ≢ 255 → digit c ≢ none
-  unfolding digit_or
-  digit-some ne e = ne (ap (λ o. Option.get_or o 255) e)
-
-  pub digit-is : digit_or c ≢ 255 → digit c ≡ some (digit_or c)
-  unfolding digit_or
-  digit-is ne = go (digit c) refl
-    where
-      go : (o : Option ℕ) → digit c ≡ o → digit c ≡ some (Option.get_or (digit c) 255)
-      go none x = absurd (ne (ap (λ o. Option.get_or o 255) x))
-      go (some v) x = x ∙ ap some (sym (ap (λ o. Option.get_or o 255) x))
-
-  pub digit-below : digit_or c ≢ 255 → digit_or c < 16
-  digit-below ne = digit-small c (digit_or c) (digit-is ne)
-
 -- Lines
 
-join-rest : (a b : Option ℕ) (r : Option (List ℕ)) → is_given r ≡ false → is_given (join_byte a b r) ≡ false
-unfolding join_byte is_given
-join-rest none b r e = refl
-join-rest (some h) none r e = refl
-join-rest (some h) (some l) none e = refl
-join-rest (some h) (some l) (some bytes) e = clash refl e
+pub given : Option ℕ → Bool
+given none = false
+given (some v) = true
 
-join-second : (a : Option ℕ) (r : Option (List ℕ)) → is_given (join_byte a none r) ≡ false
-unfolding join_byte is_given
-join-second none r = refl
-join-second (some h) r = refl
+-- What the code says of a character tells whether it is a digit.
+pub says-given : (o : Std.Option ℕ) (c : ℕ) → digit_says o ≡ digit c → is_some o ≡ given (digit c)
+unfolding digit_says given
+says-given Std.None c e = rw (← e) refl
+says-given (Std.Some x) c e = rw (← e) refl
 
-join-all : (a b : Option ℕ) (r : Option (List ℕ)) → a ≢ none → b ≢ none → is_given r ≡ true → is_given (join_byte a b r) ≡ true
-unfolding join_byte is_given
-join-all none b r x y e = absurd (x refl)
-join-all (some h) none r x y e = absurd (y refl)
-join-all (some h) (some l) none x y e = clash e refl
-join-all (some h) (some l) (some bytes) x y e = refl
+join-given : (a b : Option ℕ) (r : Option (List ℕ)) → is_given (join_byte a b r) ≡ (given a && (given b && is_given r))
+unfolding join_byte is_given given
+join-given none b r = refl
+join-given (some h) none r = refl
+join-given (some h) (some l) none = refl
+join-given (some h) (some l) (some bytes) = refl
 
-pub text-odd : (line : List ℕ) → length line % 2 ≡ 1 → is_text line ≡ false
-unfolding is_text bytes_of is_given
-text-odd [] e = absurd (omega arith)
-text-odd (c ∷ []) e = refl
-text-odd (c ∷ (d ∷ cs)) e = join-rest (digit c) (digit d) (bytes_of cs) (text-odd cs (omega arith))
+regroup : (x y p q : Bool) → (x && (y && (p && q))) ≡ (p && (x && (y && q)))
+regroup true true p q = refl
+regroup true false true q = refl
+regroup true false false q = refl
+regroup false y true q = refl
+regroup false y false q = refl
 
-pub text-other : (line : List ℕ) (i : ℕ) → i < length line → digit (get_or line i 0) ≡ none → is_text line ≡ false
-unfolding is_text bytes_of is_given
-text-other [] i l e = absurd (omega arith)
-text-other (c ∷ []) i l e = refl
-text-other (c ∷ (d ∷ cs)) zero l e = rw e (unfold join_byte in refl)
-text-other (c ∷ (d ∷ cs)) (suc zero) l e = rw e (join-second (digit c) (bytes_of cs))
-text-other (c ∷ (d ∷ cs)) (suc (suc i)) l e = join-rest (digit c) (digit d) (bytes_of cs) (text-other cs i (omega arith) e)
-
-pub text-all : (line : List ℕ) → length line % 2 ≡ 0 → ((i : ℕ) → i < length line → digit (get_or line i 0) ≢ none) → is_text line ≡ true
-unfolding is_text bytes_of is_given
-text-all [] e h = refl
-text-all (c ∷ []) e h = absurd (omega arith)
-text-all (c ∷ (d ∷ cs)) e h =
-    join-all (digit c) (digit d) (bytes_of cs) (h 0 (omega arith)) (h 1 (omega arith)) (text-all cs (omega arith) (λ i l. h (suc (suc i)) (omega arith)))
+-- A line is a text if it has two characters for each byte and all of them are digits.
+pub text-is : (line : List ℕ) → is_text line ≡ (eqb (length line % 2) 0 && list_all (λ c. given (digit c)) line)
+unfolding is_text bytes_of is_given given
+text-is [] = refl
+text-is (c ∷ []) = refl
+text-is (c ∷ (d ∷ cs)) =
+    let even : length cs % 2 ≡ suc (suc (length cs)) % 2 = omega arith in
+    join-given (digit c) (digit d) (bytes_of cs)
+    ∙ ap (λ r. given (digit c) && (given (digit d) && r)) (text-is cs)
+    ∙ regroup (given (digit c)) (given (digit d)) (eqb (length cs % 2) 0) (list_all (λ x. given (digit x)) cs)
+    ∙ ap (λ k. eqb k 0 && (given (digit c) && (given (digit d) && list_all (λ x. given (digit x)) cs))) even
 
 -- The bytes of a line are those of its digits.
 pub join-inv : (a b : Option ℕ) (r : Option (List ℕ)) (bytes : List ℕ) → join_byte a b r ≡ some bytes
@@ -149,17 +109,5 @@ byte-short line k l =
     let e : get_or line (2 * k + 1) 0 ≡ 0 = get_or-eq_default line 0 (omega arith) in
     sym (ap (λ x. byte_of (digit (get_or line (2 * k) 0)) (digit x)) e ∙ byte-second (digit (get_or line (2 * k) 0)) (digit 0) (unfold digit in refl))
 
--- Byte number k by what its digits are.
-module _ (line : List ℕ) (k h l : ℕ) (eh : h ≡ digit_or (get_or line (2 * k) 0)) (el : l ≡ digit_or (get_or line (2 * k + 1) 0)) where
-  pub byte-no-high : h ≡ 255 → 0 ≡ byte_at line k
-  unfolding byte_at byte_of
-  byte-no-high e = rw (digit-none (get_or line (2 * k) 0) (sym eh ∙ e)) refl
-
-  pub byte-no-low : l ≡ 255 → 0 ≡ byte_at line k
-  unfolding byte_at
-  byte-no-low e = sym (byte-second (digit (get_or line (2 * k) 0)) (digit (get_or line (2 * k + 1) 0)) (digit-none (get_or line (2 * k + 1) 0) (sym el ∙ e)))
-
-  pub byte-both : h ≢ 255 → l ≢ 255 → h * 16 + l ≡ byte_at line k
-  unfolding byte_at byte_of
-  byte-both nh nl =
-      rw (digit-is (get_or line (2 * k) 0) (λ z. nh (eh ∙ z)), digit-is (get_or line (2 * k + 1) 0) (λ z. nl (el ∙ z))) (ap₂ (λ x y. x * 16 + y) eh el)
+-- What `byte_at` needs of digits.
+pub ruleset reading = (digit-small, byte-short)

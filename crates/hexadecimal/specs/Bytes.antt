@@ -1,12 +1,13 @@
 -- The bytes of a line of digits where they stand, as the code reads them. A middle layer: the bytes of digits are `bytes_of`.
 use Rattle.std.specs.Prelude.{ℕ, zero, suc, ◌+◌, ◌*◌, Bool, true, false, List, [], ◌∷◌, get_or}
-use Rattle.std.proofs.Math.Option
 use Rattle.std.proofs.Math.Option.{Option, some, none}
+use Rattle.std.specs.Prelude as Std
 use Rattle.hexadecimal.specs.Hex.{digit, bytes_of}
 
--- A digit's value; 255 for another character.
-unfoldable pub digit_or : ℕ → ℕ
-digit_or c = Option.get_or (digit c) 255
+-- What the code says of a character, in the words of `digit`.
+unfoldable pub digit_says : Std.Option ℕ → Option ℕ
+digit_says (Std.Some x) = some x
+digit_says Std.None = none
 
 unfoldable pub is_given : Option (List ℕ) → Bool
 is_given none = false

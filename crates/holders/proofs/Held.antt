@@ -17,12 +17,6 @@ use Rattle.sets.proofs.Tabulated.{tabulate-length, tabulate-at}
 use Rattle.sets.proofs.Tests.{cases}
 use Rattle.sets.proofs.Tolerated.{holds as holds_at, holder-empty, holder-at, holder-none, held-some, held_none, held-empty}
 
--- Reading an element that is there needs no default.
-pub get_d_any : (l : List ℕ) (i a b : ℕ) → i < length l → get_or l i a ≡ get_or l i b
-get_d_any [] i a b h = absurd (omega arith)
-get_d_any (x ∷ l) zero a b h = refl
-get_d_any (x ∷ l) (suc i) a b h = get_d_any l i a b (omega arith)
-
 -- A list with these values is the table.
 pub tabulate-by : (f : ℕ → ℕ) (k : ℕ) (l : List ℕ) → length l ≡ k → ((j : ℕ) → j < k → get_or l j 0 ≡ f j) → l ≡ tabulate f 0 k
 tabulate-by f k l e h =

@@ -5,17 +5,6 @@ ghost use Rattle.holders.specs.Holders.{holder_table, holder_in, holds, Asked};
 ghost use Rattle.holders.specs.Filling.{stage, folding};
 
 use tolerance::bytes::byte_place;
-use tolerance::structure::Place;
-
-// The smaller of two places.
-fn least(x: u8, y: u8) -> u8
-    ensures { result ≡ min x y }
-{
-    if y < x {
-        return y;
-    }
-    x
-}
 
 // Each listed set at its own number, without board 7: its first place.
 fn listings(sets: &[u8]) -> [u8; 128]
@@ -23,10 +12,8 @@ fn listings(sets: &[u8]) -> [u8; 128]
     ensures { result ≡ stage sets.now 0 }
 {
     let mut table = [255u8; 128];
-    let mut i = sets.len();
-    while 0 < i {
-        i -= 1;
-        table[(sets[i] % 128) as usize] = i as u8;
+    for i in (0..sets.len()).rev() {
+        table[usize::from(sets[i] % 128)] = i as u8;
     }
     table
 }
@@ -36,12 +23,10 @@ fn folded(from: [u8; 128]) -> [u8; 128]
     ensures { result ≡ folding from }
 {
     let mut to = [255u8; 128];
-    let mut t = 0;
-    while t < 64 {
+    for t in 0..64 {
         let with = from[64 + t];
-        to[2 * t] = least(from[t], with);
+        to[2 * t] = from[t].min(with);
         to[2 * t + 1] = with;
-        t += 1;
     }
     to
 }
@@ -52,17 +37,15 @@ pub fn holders_of(sets: &[u8]) -> [u8; 128]
     ensures { result ≡ holder_table sets.now }
 {
     let mut table = listings(sets);
-    let mut i: u8 = 0;
-    while i < 7 {
+    for _ in 0..7u8 {
         table = folded(table);
-        i += 1;
     }
     table[0] = 0;
     table
 }
 
 // The test of a set by the table: the first listed set that holds a.
-pub fn holder_in(holders: &[u8], a: u8) -> Place
+pub fn holder_in(holders: &[u8], a: u8) -> Option<usize>
     requires { Asked holders.now a }
     ensures { place_says result ≡ found_at (holder_in holders.now a) }
 {
@@ -74,8 +57,5 @@ pub fn holds(holders: &[u8], a: u8) -> bool
     requires { Asked holders.now a }
     ensures { result ≡ holds holders.now a }
 {
-    match holder_in(holders, a) {
-        Place::At(_) => true,
-        Place::Nowhere => false,
-    }
+    holder_in(holders, a).is_some()
 }

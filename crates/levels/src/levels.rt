@@ -1,4 +1,5 @@
 // Sizes of levels, where levels start, and the number of cells.
+// Outside the limits they are 0, and no Option: their clauses say 0 there, and they cannot fail.
 ghost use Rattle.std.specs.Prelude.{◌≡◌};
 ghost use Rattle.tree.specs.Places.{size_within, start_within, count_within};
 
@@ -6,20 +7,12 @@ ghost use Rattle.tree.specs.Places.{size_within, start_within, count_within};
 pub fn level_size(n: u8, k: u8) -> usize
     ensures { result ≡ size_within n k }
 {
-    if 7 < n {
+    if 7 < n || n < k || k == 0 {
         return 0;
     }
-    if n < k {
-        return 0;
-    }
-    if k == 0 {
-        return 0;
-    }
-    let mut size: usize = 1;
-    let mut level: u8 = 1;
-    while level < k {
-        size *= (n - level) as usize;
-        level += 1;
+    let mut size = 1;
+    for level in 1..k {
+        size *= usize::from(n - level);
     }
     size
 }
@@ -32,14 +25,10 @@ pub fn level_start(n: u8, k: u8) -> usize
     if 7 < n {
         return 0;
     }
-    let mut level = k;
-    if n < level {
-        level = n + 1;
-    }
-    let mut start: usize = 0;
-    while 1 < level {
-        level -= 1;
-        start = 1 + start * (n - level) as usize;
+    let end = k.min(n + 1);
+    let mut start = 0;
+    for level in (1..end).rev() {
+        start = 1 + start * usize::from(n - level);
     }
     start
 }

@@ -70,3 +70,9 @@ module _ (n : ℕ) (sets : List ℕ) (s : Settings) where
 pub void-judged : judged void_plan ≡ refused 1
 unfolding judged void_plan planning and_then admitting
 void-judged = refl
+
+pub most-listed : (n count : ℕ) (sets : List ℕ) (s : Settings) → (planning n count sets s).number ≡ 0 → count ≤ 32
+most-listed n count sets s e = (accepted n count sets s e).admission.most-sets
+
+-- For `Plan::new`, whose attribute takes no name with a dash.
+pub ruleset planning_gives = (most-listed, planned-taken, planned-refused)

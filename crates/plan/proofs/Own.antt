@@ -1,6 +1,6 @@
 -- What planning says of a plan's own fields.
 -- Assumes nothing.
-use Prim.Native.Nat.{◌-◌, ◌≤◌, ◌<◌}
+use Prim.Native.Nat.{ℕ, ◌≤◌, ◌<◌}
 use mathlib.Core.Path.{◌≡◌, ap, ◌∙◌}
 use mathlib.Core.Logic.{◌≢◌}
 use native.Mathlib.Omega.{arith}
@@ -29,10 +29,12 @@ judged-sets p ne l h =
     rw (ne_eqb p.n 0 ne, le-ltb 7 p.n l, lt-ltb 32 p.count h)
 
 -- The listed sets of any other plan are a part of the slots.
-pub judged-slots : (p : Plan) → p.count ≤ length p.sets
-    → planning p.n (length (take (p.count - 0) p.sets)) (take (p.count - 0) p.sets) (settings_of p) ≡ judged p
+pub judged-slots : (p : Plan) (k : ℕ) → k ≡ p.count → p.count ≤ length p.sets
+    → planning p.n (length (take k p.sets)) (take k p.sets) (settings_of p) ≡ judged p
 unfolding judged listed
-judged-slots p h =
-    let z : p.count - 0 ≡ p.count = omega arith in
-    ap (λ k. planning p.n (length (take k p.sets)) (take k p.sets) (settings_of p)) z
+judged-slots p k e h =
+    ap (λ k. planning p.n (length (take k p.sets)) (take k p.sets) (settings_of p)) e
     ∙ ap (λ k. planning p.n k (listed p) (settings_of p)) (length-take-le p.count p.sets h)
+
+-- For `Plan::judge`, whose attribute takes no name with a dash.
+pub ruleset judging = (judged-none, judged-over, judged-sets, judged-slots)

@@ -1,6 +1,7 @@
 -- The public call that makes a plan, and what it says of a plan's own fields.
-use Rattle.std.specs.Prelude.{ℕ, ◌-◌, cond, List, ◌++◌, eqb, length, replicate}
-use Rattle.refusals.specs.Outcome.{Outcome}
+use Rattle.std.specs.Prelude.{ℕ, ◌-◌, cond, List, ◌++◌, eqb, length, replicate, [], Result, Ok, Err}
+use Rattle.refusals.specs.Outcome.{Outcome, taken, refusal}
+use Rattle.refusals.specs.declared.refusal.Refusal.{Refusal}
 use Rattle.settings.specs.Planning.{planning}
 use Rattle.plan.specs.Listed.{listed}
 use Rattle.plan.specs.declared.plan.Plan.{Plan}
@@ -33,6 +34,11 @@ pub record Plans : Type 0 where
 
 abbrev pub plans : ℕ → List ℕ → Settings → Plans
 plans n sets s = record { answer = planning n (length sets) sets s; plan = planned n sets s }
+
+-- What planning answers says of both: the plan, or the refusal with the void plan beside it.
+unfoldable pub plan_says : Result Plan Refusal → Plans
+plan_says (Ok p) = record { answer = taken []; plan = p }
+plan_says (Err why) = record { answer = refusal why; plan = void_plan }
 
 -- The settings of a plan.
 abbrev pub settings_of : Plan → Settings

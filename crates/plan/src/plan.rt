@@ -1,18 +1,18 @@
 // Plans, and the call that makes one.
 ghost use Rattle.std.specs.Prelude.{◌≡◌, ◌-◌, ◌≤◌, ◌++◌, length, replicate};
 ghost use Rattle.refusals.specs.Outcome.{verdict};
-ghost use Rattle.plan.specs.Calls.{plans, plan_on, void_plan, judged};
+ghost use Rattle.plan.specs.Calls.{plans, plan_on, void_plan, judged, plan_says};
 
 use admission::limits::{BOARDS, SETS};
 use codec::value::{BLANK, Value};
-use refusals::refusal::{Refusal, Verdict};
+use refusals::refusal::Refusal;
 use settings::planning::judge;
 use settings::settings::Settings;
 
 // A list of sets, a dealer, a span (values are below it), a default (a value, put where one is missing or masked) and a
 // depth (0: the tree is not cut).
 // The slots of `sets` past the count are ignored.
-#[derive(Clone, Copy)]
+#[derive(Clone, Copy, Debug, PartialEq, Eq)]
 pub struct Plan {
     pub n: u8,
     pub dealer: u8,
@@ -21,13 +21,6 @@ pub struct Plan {
     pub depth: u8,
     pub count: u8,
     pub sets: [u8; SETS],
-}
-
-// The answer to planning, and the plan; beside a refusal the void plan.
-#[derive(Clone, Copy)]
-pub struct Planned {
-    pub answer: Verdict,
-    pub plan: Plan,
 }
 
 impl Plan {
@@ -39,54 +32,37 @@ impl Plan {
     pub const BLANK: Value = BLANK;
 
     // Planning: 1 to 7, 26, 8, in order.
-    pub fn new(n: u8, sets: &[u8], settings: Settings) -> Planned
-        ensures { record { answer = verdict result.answer; plan = result.plan } ≡ plans n sets.now settings }
+    #[tactic(auto, using(refusals::proofs::Outcomes::refusing, crate::proofs::Accepted::planning_gives), unfolding(refusals::specs::Outcome::verdict, crate::specs::Calls::plan_says))]
+    pub fn new(n: u8, sets: &[u8], settings: Settings) -> Result<Plan, Refusal>
+        ensures { plan_says result ≡ plans n sets.now settings }
     {
-        let answer = judge(n, sets, settings);
-        match answer {
-            Verdict::Accepted => {
-                let plan = Plan::on(n, sets, settings);
-                Planned {
-                    answer: Verdict::Accepted,
-                    plan: plan,
-                }
-            }
-            Verdict::Refused(why) => {
-                let plan = Plan::void();
-                Planned {
-                    answer: Verdict::Refused(why),
-                    plan: plan,
-                }
-            }
-        }
+        judge(n, sets, settings)?;
+        Ok(Plan::on(n, sets, settings))
     }
 
     // The plan's own fields: 1 to 7, 26, 8. Above 32 sets only the number of boards comes before 3.
-    pub fn judge(self) -> Verdict
+    #[tactic(auto, using(crate::proofs::Own::judging), unfolding(refusals::specs::Outcome::verdict, refusals::specs::Outcome::refusal))]
+    pub fn judge(self) -> Result<(), Refusal>
         ensures { verdict result ≡ judged self }
     {
-        let n = self.n;
-        let count = self.count as usize;
+        let count = usize::from(self.count);
         if Plan::SETS < count {
-            if n == 0 {
-                return Verdict::Refused(Refusal::Boards);
+            if self.n == 0 || Plan::BOARDS < self.n {
+                return Err(Refusal::Boards);
             }
-            if Plan::BOARDS < n {
-                return Verdict::Refused(Refusal::Boards);
-            }
-            return Verdict::Refused(Refusal::TooManySets);
+            return Err(Refusal::TooManySets);
         }
-        let sets = self.sets;
         let settings = Settings {
             dealer: self.dealer,
             span: self.span,
             default: self.default,
             depth: self.depth,
         };
-        judge(n, &sets[0..count], settings)
+        judge(self.n, &self.sets[..count], settings)
     }
 
     // The plan beside a refusal: every call refuses it.
+    #[tactic(auto, unfolding(crate::specs::Calls::void_plan))]
     pub fn void() -> Plan
         ensures { result ≡ void_plan }
     {
@@ -102,19 +78,19 @@ impl Plan {
     }
 
     // The plan on at most 32 sets.
+    #[tactic(auto, unfolding(crate::specs::Calls::plan_on))]
     fn on(n: u8, sets: &[u8], settings: Settings) -> Plan
         requires { length sets.now ≤ 32 }
         ensures { result ≡ plan_on n sets.now settings }
     {
-        let slots = copied(sets);
         Plan {
-            n: n,
+            n,
             dealer: settings.dealer,
             span: settings.span,
             default: settings.default,
             depth: settings.depth,
             count: sets.len() as u8,
-            sets: slots,
+            sets: copied(sets),
         }
     }
 }
@@ -125,10 +101,6 @@ fn copied(sets: &[u8]) -> [u8; SETS]
     ensures { result ≡ sets.now ++ replicate (32 - length sets.now) 0 }
 {
     let mut slots = [0u8; SETS];
-    let mut i = 0;
-    while i < sets.len() {
-        slots[i] = sets[i];
-        i += 1;
-    }
+    slots[..sets.len()].copy_from_slice(sets);
     slots
 }

@@ -7,6 +7,7 @@ use codec::value::Value;
 
 impl Plan {
     // What stands in for a value that is missing or masked.
+    #[tactic(auto, unfolding(crate::specs::Values::default))]
     pub fn default(self) -> Value
         ensures { result ≡ default self }
     {
@@ -14,12 +15,10 @@ impl Plan {
     }
 
     // A cell of m or more, read as a value, counts as the default.
+    #[tactic(auto, unfolding(crate::specs::Values::value))]
     pub fn value(self, x: Value) -> Value
         ensures { result ≡ value self x }
     {
-        if x < self.span {
-            return x;
-        }
-        self.default()
+        if x < self.span { x } else { self.default() }
     }
 }

@@ -1,39 +1,58 @@
--- What each answer says in the terms of 01: its number, 0 for a call that is taken, and the values beside it.
-use Rattle.std.specs.Prelude.{[], ◌∷◌}
+-- What each answer says in the terms of 01: its number, 0 for a call that is taken, and the values beside it; and the
+-- record that a call leaves where it answers with one.
+use Rattle.std.specs.Prelude.{ℕ, List, [], ◌∷◌, Result, Ok, Err}
 use Rattle.refusals.specs.Outcome.{Outcome, taken, refusal}
-use Rattle.protocol.specs.declared.answers.Dealt.{Dealt}
-use Rattle.protocol.specs.declared.answers.Dealt.TheVariants as D
-use Rattle.protocol.specs.declared.answers.Sent.{Sent}
-use Rattle.protocol.specs.declared.answers.Sent.TheVariants as S
+use Rattle.refusals.specs.declared.refusal.Refusal.{Refusal}
+use Rattle.protocol.specs.declared.records.Record.{Record}
 use Rattle.protocol.specs.declared.answers.Closing.{Closing}
 use Rattle.protocol.specs.declared.answers.Closing.TheVariants as C
-use Rattle.protocol.specs.declared.answers.Decision.{Decision}
-use Rattle.protocol.specs.declared.answers.Decision.TheVariants as N
-use Rattle.protocol.specs.declared.answers.Played.{Played}
-use Rattle.protocol.specs.declared.answers.Played.TheVariants as P
+use Rattle.protocol.specs.declared.answers.Closed.{Closed}
+use Rattle.protocol.specs.declared.answers.Refused.{Refused}
+use Rattle.protocol.specs.Calls.{void_record}
+
+-- Beginning a board: nothing beside the number; the record that it leaves, the void record where it is refused.
+unfoldable pub begun_says : Result Record Refusal → Outcome
+begun_says (Ok r) = taken []
+begun_says (Err why) = refusal why
+
+unfoldable pub begun_record : Result Record Refusal → Record
+begun_record (Ok r) = r
+begun_record (Err why) = void_record
 
 -- The dealer's frame: its two bytes. 02 g: "written high byte first".
-unfoldable pub dealt_says : Dealt → Outcome
-dealt_says (D.Frame h l) = taken (h ∷ l ∷ [])
-dealt_says (D.Refused why) = refusal why
+unfoldable pub dealt_says : Result (List ℕ) Refusal → Outcome
+dealt_says (Ok bytes) = taken bytes
+dealt_says (Err why) = refusal why
 
 -- Writing a frame: its length in bytes.
-unfoldable pub sent_says : Sent → Outcome
-sent_says (S.Length k) = taken (k ∷ [])
-sent_says (S.Refused why) = refusal why
+unfoldable pub sent_says : Result ℕ Refusal → Outcome
+sent_says (Ok k) = taken (k ∷ [])
+sent_says (Err why) = refusal why
 
 -- Closing a round: the run and the round that are open now, or nothing if the board has decided.
-unfoldable pub closing_says : Closing → Outcome
-closing_says (C.Next t k) = taken (t.0 ∷ k.0 ∷ [])
-closing_says C.Decided = taken []
-closing_says (C.Refused why) = refusal why
+unfoldable pub open_says : Closing → Outcome
+open_says (C.Next t k) = taken (t.0 ∷ k.0 ∷ [])
+open_says C.Decided = taken []
+
+unfoldable pub closing_says : Result Closing Refusal → Outcome
+closing_says (Ok closing) = open_says closing
+closing_says (Err why) = refusal why
+
+-- The same by value, with the record that it leaves: as it came where it is refused.
+unfoldable pub closed_says : Result Closed Refusal → Outcome
+closed_says (Ok closed) = open_says closed.closing
+closed_says (Err why) = refusal why
+
+unfoldable pub closed_record : Record → Result Closed Refusal → Record
+closed_record r (Ok closed) = closed.rec
+closed_record r (Err why) = r
 
 -- Reading the decision.
-unfoldable pub decision_says : Decision → Outcome
-decision_says (N.Value v) = taken (v ∷ [])
-decision_says (N.Refused why) = refusal why
+unfoldable pub decision_says : Result ℕ Refusal → Outcome
+decision_says (Ok v) = taken (v ∷ [])
+decision_says (Err why) = refusal why
 
 -- Playing a sheet: the bytes written; for a refusal its line before its values.
-unfoldable pub played_says : Played → Outcome
-played_says (P.Written k) = taken (k ∷ [])
-played_says (P.Refused why line) = record { number = (refusal why).number; values = line ∷ (refusal why).values }
+unfoldable pub played_says : Result ℕ Refused → Outcome
+played_says (Ok k) = taken (k ∷ [])
+played_says (Err r) = record { number = (refusal r.why).number; values = r.line ∷ (refusal r.why).values }

@@ -7,8 +7,7 @@ use lib.ListN.{get_or}
 use borrow.Author.Tests.{ne_eqb}
 use Rattle.refusals.specs.declared.refusal.Refusal.{Refusal}
 use Rattle.refusals.specs.declared.refusal.Refusal.TheVariants.{Boards, TooManySets, UnknownBoard, Covered, Dealer, Span, Depth, BoardNumber, BoardIsDealer, ShortCells, BadRecord, Decided, NotDue, AlreadyTaken, NothingToSend, ShortOutput, BadValue, Undecided, LongSheet, BadText, BadHead, BadFaulty, BadFrame, Default}
-use Rattle.refusals.specs.declared.refusal.Verdict.{Verdict}
-use Rattle.refusals.specs.declared.refusal.Verdict.TheVariants.{Accepted, Refused}
+use Rattle.std.specs.Prelude.{Result, Ok, Err}
 use Rattle.refusals.specs.Outcome.{Outcome, refusal, verdict}
 use Rattle.refusals.proofs.Outcomes.{refusal-number}
 
@@ -71,13 +70,13 @@ pub refusal-injective : (r s : Refusal) → refusal r ≡ refusal s → r ≡ s
 refusal-injective r s e = sym (why-refusal r) ∙ ap why e ∙ why-refusal s
 
 -- The answer of an outcome.
-answer : Outcome → Verdict
-answer o = cond (eqb o.number 0) Accepted (Refused (why o))
+answer : Outcome → Result (Unit {0}) Refusal
+answer o = cond (eqb o.number 0) (Ok tt) (Err (why o))
 
-answer-verdict : (v : Verdict) → answer (verdict v) ≡ v
+answer-verdict : (v : Result (Unit {0}) Refusal) → answer (verdict v) ≡ v
 unfolding answer verdict
-answer-verdict Accepted = refl
-answer-verdict (Refused r) = rw (ne_eqb (refusal r).number 0 (refusal-number r)) (ap Refused (why-refusal r))
+answer-verdict (Ok _) = refl
+answer-verdict (Err r) = rw (ne_eqb (refusal r).number 0 (refusal-number r)) (ap Err (why-refusal r))
 
-pub verdict-injective : (v w : Verdict) → verdict v ≡ verdict w → v ≡ w
+pub verdict-injective : (v w : Result (Unit {0}) Refusal) → verdict v ≡ verdict w → v ≡ w
 verdict-injective v w e = sym (answer-verdict v) ∙ ap answer e ∙ answer-verdict w

@@ -9,7 +9,8 @@ use lib.Dec.{eqb}
 use borrow.Author.Tests.{eq-eqb, ne_eqb, eqb-true, eqb-false}
 use Rattle.refusals.specs.declared.refusal.Refusal.{Refusal}
 use Rattle.refusals.specs.declared.refusal.Refusal.TheVariants.{Boards, TooManySets, UnknownBoard, Covered, Dealer, Span, Depth, BoardNumber, BoardIsDealer, ShortCells, BadRecord, Decided, NotDue, AlreadyTaken, NothingToSend, ShortOutput, BadValue, Undecided, LongSheet, BadText, BadHead, BadFaulty, BadFrame, Default}
-use Rattle.refusals.specs.Outcome.{Outcome, refusal, and_then}
+use Rattle.refusals.specs.Outcome.{Outcome, refusal, verdict, and_then}
+use Rattle.std.specs.Prelude.{Ok, Err}
 use Rattle.sets.proofs.Tests.{cases}
 
 pub refusal-number : (why : Refusal) → (refusal why).number ≢ 0
@@ -66,3 +67,15 @@ either-other false x y u v = v
 pub both-other : (x y : Outcome) {k : ℕ} → x.number ≢ k → y.number ≢ k → (and_then x y).number ≢ k
 unfolding and_then
 both-other x y u v = either-other (eqb x.number 0) y x v u
+
+-- An answer by `?`: a refusal that comes first is the answer; else what comes next is.
+pub refusing-first : (why : Refusal) (o next : Outcome) → verdict (Err why) ≡ o → verdict (Err why) ≡ and_then o next
+unfolding verdict
+refusing-first why o next e = e ∙ sym (refused-first o next (λ z. refusal-number why (ap (λ x. x.number) e ∙ z)))
+
+pub accepting-first : (o next : Outcome) → verdict (Ok tt) ≡ o → next ≡ and_then o next
+unfolding verdict
+accepting-first o next e = sym (taken-first o next (ap (λ x. x.number) (sym e)))
+
+-- What an answer by `?` needs: named for `#[tactic(auto, using(..))]`, which takes no name with a dash.
+pub ruleset refusing = (refusal-number)

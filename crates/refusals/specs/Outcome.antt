@@ -1,9 +1,7 @@
 -- What an answer says in the terms of 01: the number of the refusal, 0 for a call that is taken, and the values beside it.
-use Rattle.std.specs.Prelude.{ℕ, cond, List, [], ◌∷◌, eqb}
+use Rattle.std.specs.Prelude.{ℕ, cond, List, [], ◌∷◌, eqb, Result, Ok, Err}
 use Rattle.refusals.specs.declared.refusal.Refusal.{Refusal}
 use Rattle.refusals.specs.declared.refusal.Refusal.TheVariants.{Boards, TooManySets, UnknownBoard, Covered, Dealer, Span, Depth, BoardNumber, BoardIsDealer, ShortCells, BadRecord, Decided, NotDue, AlreadyTaken, NothingToSend, ShortOutput, BadValue, Undecided, LongSheet, BadText, BadHead, BadFaulty, BadFrame, Default}
-use Rattle.refusals.specs.declared.refusal.Verdict.{Verdict}
-use Rattle.refusals.specs.declared.refusal.Verdict.TheVariants.{Accepted, Refused}
 
 pub record Outcome : Type 0 where
   pub number : ℕ
@@ -50,9 +48,9 @@ refusal BadFrame = refused 24
 refusal Default = refused 26
 
 -- The answer to admitting sets and to planning.
-unfoldable pub verdict : Verdict → Outcome
-verdict Accepted = taken []
-verdict (Refused why) = refusal why
+unfoldable pub verdict : Result (Unit {0}) Refusal → Outcome
+verdict (Ok _) = taken []
+verdict (Err why) = refusal why
 
 -- What is judged first, if it refuses; else the next.
 unfoldable pub and_then : Outcome → Outcome → Outcome

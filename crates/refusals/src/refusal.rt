@@ -1,9 +1,5 @@
 // Why a call is turned down. `refusal` in specs/Outcome.antt sets out the number of each.
-ghost use Rattle.std.specs.Prelude.{◌≡◌};
-ghost use Rattle.refusals.specs.Outcome.{verdict};
-ghost use Rattle.refusals.specs.Outcome.{and_then};
-
-#[derive(Clone, Copy)]
+#[derive(Clone, Copy, Debug, PartialEq, Eq)]
 pub enum Refusal {
     // n is 0 or above 7.
     Boards,
@@ -53,21 +49,4 @@ pub enum Refusal {
     BadFrame,
     // The default is not below the span.
     Default,
-}
-
-// The answer to admitting sets and to planning.
-#[derive(Clone, Copy)]
-pub enum Verdict {
-    Accepted,
-    Refused(Refusal),
-}
-
-// What is judged first, if it refuses; else the next.
-pub fn and_then(first: Verdict, next: Verdict) -> Verdict
-    ensures { verdict result ≡ and_then (verdict first) (verdict next) }
-{
-    match first {
-        Verdict::Accepted => next,
-        Verdict::Refused(why) => Verdict::Refused(why),
-    }
 }

@@ -1,13 +1,14 @@
 -- The laws of levels and runs.
 -- Assumes nothing.
-use Prim.Native.Nat.{ℕ, ◌+◌, ◌-◌, ◌*◌, ◌/◌, ◌≤◌, ◌<◌}
+use Prim.Native.Nat.{ℕ, ◌+◌, ◌-◌, ◌*◌, ◌/◌, ◌%◌, ◌≤◌, ◌<◌, min}
 use mathlib.Core.Path.{◌≡◌, ◌∙◌, ap}
-use native.Mathlib.Nat.{div-zero, div-eq_of_lt, div-lt_iff_lt-mul, div-add-mod', mod-lt, mul-le-mul_left, mul-one, suc-mul}
+use native.Mathlib.Nat.{div-zero, div-lt_iff_lt-mul, div-add-mod', mod-lt, mul-le-mul_left, mul-one, suc-mul}
 use native.Mathlib.Numerals.{add-one}
 use native.Mathlib.Omega.{arith}
 use mathlib.Core.Logic.{◌≢◌}
 use lib.Dec.{eqb, ltb}
-use borrow.Author.Tests.{eqb-false, ltb-true}
+use borrow.Author.Tests.{eqb-false, ltb-true, ltb-false}
+use Rattle.std.proofs.lemmas.Grind.{div_ceil_times}
 use mathlib.Core.Bool.{true, false, not}
 use Rattle.plan.specs.declared.plan.Plan.{Plan}
 use Rattle.schedule.specs.Schedule.{ceil_div, rounds, runs}
@@ -17,10 +18,6 @@ use Rattle.sets.proofs.Tests.{cases, and_l, and_r, not_t}
 pub ceil-none : (a b : ℕ) → b ≡ 0 → ceil_div a b ≡ 0
 unfolding ceil_div
 ceil-none a b e = ap (λ x. (a + (x - 1)) / x) e ∙ div-zero (a + (0 - 1))
-
-pub ceil-zero : (a b : ℕ) → a ≡ 0 → 0 < b → ceil_div a b ≡ 0
-unfolding ceil_div
-ceil-zero a b e l = div-eq_of_lt (let z : a + (b - 1) < b = omega arith in z)
 
 pub ceil-le : (a b : ℕ) → 0 < b → ceil_div a b ≤ a
 unfolding ceil_div
@@ -32,6 +29,19 @@ ceil-le a b l =
 pub ceil-enough : (a b : ℕ) → 0 < b → a ≤ ceil_div a b * b
 unfolding ceil_div
 ceil-enough a b l = omega (arith, div-add-mod' (a + (b - 1)) b, mod-lt (a + (b - 1)) l)
+
+-- std's quotient, rounded up.
+pub ceil-is : (a b : ℕ) → 0 < b → a / b + min 1 (a % b) ≡ ceil_div a b
+unfolding ceil_div
+ceil-is a b l =
+    let d = a / b + min 1 (a % b) in
+    let times = div_ceil_times a b l in
+    let most : (a + (b - 1)) / b < d + 1 = (div-lt_iff_lt-mul l).1 (omega (arith, times.0, suc-mul d b, add-one d)) in
+    let least : d ≤ (a + (b - 1)) / b =
+    cases (ltb ((a + (b - 1)) / b) d)
+    (λ e. let low = (div-lt_iff_lt-mul l).0 (ltb-true _ _ e) in absurd (omega (arith, times.1)))
+    (λ e. ltb-false _ _ e) in
+    omega arith
 
 module _ (p : Plan) where
   pub rounds-cut : is_cut p ≡ true → rounds p ≡ record { 0 = p.depth }

@@ -7,11 +7,11 @@ use heights::height::{depth_of, height, is_cut};
 use plan::plan::Plan;
 
 // The number of a run, from 1.
-#[derive(Clone, Copy)]
+#[derive(Clone, Copy, Debug, PartialEq, Eq, PartialOrd, Ord)]
 pub struct Run(pub u8);
 
 // The number of a round within a run, from 1.
-#[derive(Clone, Copy)]
+#[derive(Clone, Copy, Debug, PartialEq, Eq, PartialOrd, Ord)]
 pub struct Round(pub u8);
 
 // ⌈(n − 3) / (b − 3)⌉; 0 for a depth that no cut tree has.
@@ -21,41 +21,38 @@ fn later_runs(n: u8, depth: u8) -> u8
     if depth <= 3 {
         return 0;
     }
-    if n <= 3 {
-        return 0;
-    }
-    let a = (n - 3) as usize;
-    let b = (depth - 3) as usize;
-    ((a + (b - 1)) / b) as u8
+    n.saturating_sub(3).div_ceil(depth - 3)
 }
 
 // The last round of every run, R.
+#[tactic(auto, unfolding(crate::specs::Schedule::rounds))]
 pub fn rounds(plan: Plan) -> Round
     ensures { result ≡ rounds plan }
 {
     if is_cut(plan) {
-        return Round(depth_of(plan));
+        Round(depth_of(plan))
+    } else {
+        Round(height(plan))
     }
-    Round(height(plan))
 }
 
 // The last run, T.
+#[tactic(auto, unfolding(crate::specs::Schedule::runs))]
 pub fn runs(plan: Plan) -> Run
     ensures { result ≡ runs plan }
 {
     if is_cut(plan) {
-        return Run(later_runs(plan.n, depth_of(plan)) + 1);
+        Run(later_runs(plan.n, depth_of(plan)) + 1)
+    } else {
+        Run(1)
     }
-    Run(1)
 }
 
 // The rounds over all runs.
 pub fn steps(plan: Plan) -> usize
     ensures { result ≡ steps plan }
 {
-    let last = runs(plan);
-    let t = last.0 as usize;
-    let end = rounds(plan);
-    let k = end.0 as usize;
+    let t = usize::from(runs(plan).0);
+    let k = usize::from(rounds(plan).0);
     k + (t - 1) * (k - 1)
 }

@@ -5,3 +5,6 @@ pub mod Count
 pub mod Member
 pub mod Tolerated
 pub mod Only
+pub mod Bridges
+pub mod Collect
+pub mod Ones

@@ -7,10 +7,7 @@ ghost use Rattle.sets.specs.Bounded.{Bounded};
 pub fn member(s: u8, i: u8) -> bool
     ensures { result ≡ member i s }
 {
-    if 8 <= i {
-        return false;
-    }
-    (s >> i) % 2 == 1
+    i < 8 && (s >> i) % 2 == 1
 }
 
 // Does a lie within s?
@@ -34,13 +31,5 @@ pub fn all_boards(n: u8) -> u8
 pub fn size(s: u8) -> u8
     ensures { Bounded result (size s) 8 }
 {
-    let mut n = 0;
-    let mut i = 0;
-    while i < 8 {
-        if member(s, i) {
-            n += 1;
-        }
-        i += 1;
-    }
-    n
+    s.count_ones() as u8
 }

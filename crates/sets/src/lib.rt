@@ -2,3 +2,4 @@
 #![tactic(auto)]
 
 pub mod boards;
+pub mod choosing;

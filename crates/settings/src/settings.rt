@@ -1,10 +1,10 @@
 // What a plan has beside its sets, and what is refused of it.
-ghost use Rattle.std.specs.Prelude.{◌≡◌};
-ghost use Rattle.refusals.specs.Outcome.{verdict};
+ghost use Rattle.std.specs.Prelude.{◌≡◌, cond, [], leb};
+ghost use Rattle.refusals.specs.Outcome.{taken, refused, verdict};
 ghost use Rattle.settings.specs.Planning.{judge_settings};
 
 use codec::value::Value;
-use refusals::refusal::{Refusal, Verdict};
+use refusals::refusal::Refusal;
 
 // The least span.
 pub const LEAST_SPAN: Value = 2;
@@ -14,7 +14,7 @@ pub const SHALLOW: u8 = 4;
 pub const DEEP: u8 = 7;
 
 // A dealer, a span, a default and a depth.
-#[derive(Clone, Copy)]
+#[derive(Clone, Copy, Debug, PartialEq, Eq)]
 pub struct Settings {
     pub dealer: u8,
     pub span: Value,
@@ -22,32 +22,33 @@ pub struct Settings {
     pub depth: u8,
 }
 
+// A value, where it has to be below the span: 18.
+#[tactic(auto, unfolding(refusals::specs::Outcome::verdict, refusals::specs::Outcome::refusal))]
+pub fn judge_value(span: Value, value: Value) -> Result<(), Refusal>
+    ensures { verdict result ≡ cond (leb span value) (refused 18) (taken []) }
+{
+    if span <= value {
+        return Err(Refusal::BadValue);
+    }
+    Ok(())
+}
+
 // 6, 7, 26, 8.
 #[tactic(auto, unfolding(refusals::specs::Outcome::verdict, refusals::specs::Outcome::refusal, crate::specs::Planning::judge_settings, crate::specs::Planning::is_depth))]
-pub fn judge_settings(n: u8, settings: Settings) -> Verdict
+pub fn judge_settings(n: u8, settings: Settings) -> Result<(), Refusal>
     ensures { verdict result ≡ judge_settings n settings }
 {
-    let dealer = settings.dealer;
-    let span = settings.span;
-    let default = settings.default;
-    let depth = settings.depth;
-    if n <= dealer {
-        return Verdict::Refused(Refusal::Dealer);
+    if n <= settings.dealer {
+        return Err(Refusal::Dealer);
     }
-    if span < LEAST_SPAN {
-        return Verdict::Refused(Refusal::Span);
+    if settings.span < LEAST_SPAN {
+        return Err(Refusal::Span);
     }
-    if span <= default {
-        return Verdict::Refused(Refusal::Default);
+    if settings.span <= settings.default {
+        return Err(Refusal::Default);
     }
-    if depth == 0 {
-        return Verdict::Accepted;
+    match settings.depth {
+        0 | SHALLOW..=DEEP => Ok(()),
+        _ => Err(Refusal::Depth),
     }
-    if depth < SHALLOW {
-        return Verdict::Refused(Refusal::Depth);
-    }
-    if DEEP < depth {
-        return Verdict::Refused(Refusal::Depth);
-    }
-    Verdict::Accepted
 }

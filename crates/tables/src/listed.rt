@@ -13,27 +13,19 @@ use tolerance::structure::holder;
 pub fn slots_used(count: u8) -> usize
     ensures { result ≡ min count 32 }
 {
-    let used = count as usize;
-    if Plan::SETS < used {
-        return Plan::SETS;
-    }
-    used
+    usize::from(count).min(Plan::SETS)
 }
 
 // The table of holders of the listed sets.
 pub fn table_of(plan: Plan) -> [u8; 128]
     ensures { result ≡ holder_table (listed plan) }
 {
-    let sets = plan.sets;
-    let count = slots_used(plan.count);
-    holders_of(&sets[0..count])
+    holders_of(&plan.sets[..slots_used(plan.count)])
 }
 
 // The place of the first listed set that holds a, as a byte; FF if none does.
 pub fn held_at(plan: Plan, a: u8) -> u8
     ensures { result ≡ held_at (listed plan) a }
 {
-    let sets = plan.sets;
-    let count = slots_used(plan.count);
-    place_byte(holder(&sets[0..count], a))
+    place_byte(holder(&plan.sets[..slots_used(plan.count)], a))
 }

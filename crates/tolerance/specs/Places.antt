@@ -1,17 +1,15 @@
--- The answer to the test whether a set is tolerated: what the cases of `Place` say.
-use Rattle.std.specs.Prelude.{ℕ, [], ◌∷◌}
-use Rattle.std.proofs.Math.Option.{Option, some, none}
+-- The answer to the test whether a set is tolerated: what a place says.
+use Rattle.std.specs.Prelude.{ℕ, [], ◌∷◌, Option, Some, None}
+use Rattle.std.proofs.Math.Option as M
 use Rattle.refusals.specs.Outcome.{Outcome, taken}
-use Rattle.tolerance.specs.declared.structure.Place.{Place}
-use Rattle.tolerance.specs.declared.structure.Place.TheVariants.{At, Nowhere}
 
--- The number and the values of each case. 02 c: the test "gives the place .. or says that none does". Nothing turns it down, so the number
+-- The number and the values of an answer. 02 c: the test "gives the place .. or says that none does". Nothing turns it down, so the number
 -- is 0; the value is the place, and there is none where no listed set holds the set.
-unfoldable pub place_says : Place → Outcome
-place_says (At i) = taken (i ∷ [])
-place_says Nowhere = taken []
+unfoldable pub place_says : Option ℕ → Outcome
+place_says (Some i) = taken (i ∷ [])
+place_says None = taken []
 
 -- The answer for what `holder` of sets/Structure gives.
-unfoldable pub found_at : Option ℕ → Outcome
-found_at (some i) = taken (i ∷ [])
-found_at none = taken []
+unfoldable pub found_at : M.Option ℕ → Outcome
+found_at (M.some i) = taken (i ∷ [])
+found_at M.none = taken []

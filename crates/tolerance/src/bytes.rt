@@ -1,31 +1,26 @@
-// A place as a byte, FF for none.
+// A place as a byte, FF for none: the table of holders has a byte for each of 128 sets, and a printed place is that byte.
 ghost use Rattle.std.specs.Prelude.{◌≡◌};
 ghost use Rattle.tolerance.specs.Places.{place_says, found_at};
 ghost use Rattle.tolerance.specs.Bytes.{place_byte, byte_place};
 
-use crate::structure::Place;
-
 // The byte for a place.
-pub fn place_byte(p: Place) -> u8
-    ensures { result ≡ place_byte (place_says p) }
+#[tactic(auto, unfolding(crate::specs::Places::place_says, crate::specs::Bytes::place_byte))]
+pub fn place_byte(place: Option<usize>) -> u8
+    ensures { result ≡ place_byte (place_says place) }
 {
-    match p {
-        Place::At(i) => {
-            if 255 < i {
-                return 255;
-            }
-            i as u8
-        }
-        Place::Nowhere => 255,
+    match place {
+        Some(i) => i.min(255) as u8,
+        None => 255,
     }
 }
 
 // The place that a byte says.
-pub fn byte_place(x: u8) -> Place
+#[tactic(auto, unfolding(crate::specs::Places::place_says, crate::specs::Places::found_at, crate::specs::Bytes::byte_place))]
+pub fn byte_place(x: u8) -> Option<usize>
     ensures { place_says result ≡ found_at (byte_place x) }
 {
-    if x == 255 {
-        return Place::Nowhere;
+    match x {
+        255 => None,
+        _ => Some(usize::from(x)),
     }
-    Place::At(x as usize)
 }

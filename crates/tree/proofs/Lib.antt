@@ -11,7 +11,6 @@ pub mod Cells
 pub mod Within
 pub mod Boards
 pub mod Descent
-pub mod Collect
 pub mod ChildIndex
 pub mod NodePlaces
 pub mod Parts

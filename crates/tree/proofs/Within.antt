@@ -1,13 +1,13 @@
 -- Sizes and starts of levels with their limits: 0 unless n is 1 to 7.
 -- Assumes nothing.
-use Prim.Native.Nat.{ℕ, ◌+◌, ◌≤◌, ◌<◌}
+use Prim.Native.Nat.{ℕ, ◌+◌, ◌≤◌, ◌<◌, min}
 use mathlib.Core.Path.{◌≡◌, sym, ◌∙◌, ap}
 use mathlib.Core.Logic.{◌≢◌}
 use mathlib.Core.Bool.{Bool, true, false, ◌&&◌}
 use native.Mathlib.Omega.{arith}
 use native.Mathlib.Numerals.{add-one}
 use lib.Dec.{eqb, leb}
-use borrow.Author.Tests.{eqb-true, eqb-false, le-leb, lt-leb, leb-true}
+use borrow.Author.Tests.{eqb-true, eqb-false, le-leb, lt-leb, leb-true, leb-false}
 use Rattle.sets.proofs.Tests.{cases, and_l, and_r}
 use Rattle.tree.specs.Places.{level_size, level_start, cell_count, size_within, start_within, count_within}
 use Rattle.tree.proofs.Sizes.{size-past, start-suc, start-le, start-past, cells-most}
@@ -65,7 +65,7 @@ unfolding start_within
 start-over n k l = rw (limits-past n l)
 
 -- The code counts from level k, or from the one past n if k is further down: both start where level k does.
-pub start-near : (n k : ℕ) → n ≤ 7 → k ≤ n → level_start n k ≡ start_within n k
+start-near : (n k : ℕ) → n ≤ 7 → k ≤ n → level_start n k ≡ start_within n k
 unfolding level_start
 start-near n k m l =
     cases (eqb n 0)
@@ -74,7 +74,7 @@ start-near n k m l =
     ap (level_start n) first ∙ sym (start_none n k none))
     (λ e. let some : n ≢ 0 = eqb-false n 0 e in sym (start-within n k (omega arith) m))
 
-pub start-deep : (n k : ℕ) → n ≤ 7 → n < k → level_start n (n + 1) ≡ start_within n k
+start-deep : (n k : ℕ) → n ≤ 7 → n < k → level_start n (n + 1) ≡ start_within n k
 unfolding level_start level_size
 start-deep n k m l =
     cases (eqb n 0)
@@ -82,6 +82,14 @@ start-deep n k m l =
     let first : n + 1 ≡ 1 = omega arith in
     ap (level_start n) first ∙ sym (start_none n k none))
     (λ e. let some : n ≢ 0 = eqb-false n 0 e in start-past n k (omega arith) l ∙ sym (start-within n k (omega arith) m))
+
+pub start-end : (n k : ℕ) → n ≤ 7 → level_start n (min k (n + 1)) ≡ start_within n k
+start-end n k m =
+    cases (leb k n)
+    (λ e. let l = leb-true k n e in
+    ap (level_start n) (let z : min k (n + 1) ≡ k = omega arith in z) ∙ start-near n k m l)
+    (λ e. let l = leb-false k n e in
+    ap (level_start n) (let z : min k (n + 1) ≡ n + 1 = omega arith in z) ∙ start-deep n k m l)
 
 -- A level starts where the one before it ends.
 pub start-next : (n k : ℕ) → start_within n (k + 1) ≡ start_within n k + size_within n k

@@ -8,9 +8,6 @@ use crate::outside;
 pub fn child_index(n: u8, level: u8, index: u16, mask: u8, board: u8) -> usize
     ensures { result ≡ child_index n level index mask board }
 {
-    let below = outside::outside_below(mask, board) as usize;
-    if level < n {
-        return index as usize * (n - level) as usize + below;
-    }
-    below
+    let below = usize::from(outside::outside_below(mask, board));
+    usize::from(index) * usize::from(n.saturating_sub(level)) + below
 }

@@ -8,13 +8,11 @@ use sets::boards;
 pub fn outside_below(s: u8, k: u8) -> u8
     ensures { result ≡ outside_below s k }
 {
-    let mut seen: u8 = 0;
-    let mut i: u8 = 0;
-    while i < k {
+    let mut seen = 0;
+    for i in 0..k {
         if !boards::member(s, i) {
             seen += 1;
         }
-        i += 1;
     }
     seen
 }

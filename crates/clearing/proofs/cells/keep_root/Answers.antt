@@ -5,7 +5,7 @@ use lib.ListN.{set}
 use Rattle.codec.specs.Codec.{current}
 use Rattle.protocol.proofs.Judgement.{plan-facts}
 use Rattle.tree.proofs.Places.{some-cell}
-use Rattle.clearing.proofs.Cleared.{cleared_to, cleared-root}
+use Rattle.clearing.proofs.Cleared.{cleared-root}
 use Rattle.clearing.proofs.cells.keep_root.Goals as goal
 
 pub bounds-cells-0 : goal.bounds-cells-0
@@ -14,7 +14,6 @@ bounds-cells-0 c =
     omega (arith, some-cell p.n p.dealer (plan-facts p c.requires.accepted).dealer-below, c.requires.enough, c.clear.auto.cells)
 
 pub returns : goal.returns
-unfolding cleared_to
 returns c =
     let a = c.args in
     ap (λ x. set x 0 a.root) c.clear.ensures

@@ -3,7 +3,7 @@ use mathlib.Core.Path.{◌≡◌, ◌∙◌, sym, ap}
 use mathlib.Core.List.{List}
 use native.Mathlib.Omega.{arith}
 use native.Mathlib.Numerals.{add-one}
-use lib.ListN.{length, get_or, get_or-eq_default}
+use lib.ListN.{length, get_or}
 use borrow.Author.Rules.{rules}
 use Rattle.codec.specs.Codec.{current, decode, number_at}
 use Rattle.codec.proofs.Codec.{decode-fits, decode-at}
@@ -38,11 +38,6 @@ pub returns-then-i-value_count : goal.returns-then-i-value_count
 unfolding number_at
 returns-then-i-value_count c =
     let a = c.args in
-    c.value_of.ensures
+    c.from_be_bytes.ensures
     ∙ ap (λ k. get_or a.frame.now (2 * a.i) 0 * 256 + get_or a.frame.now k 0) (add-one (2 * a.i))
     ∙ sym (decode-at current a.frame.now a.i (omega (arith, c.if-i-value_count.true, c.value_count.ensures)))
-
-pub returns : goal.returns
-returns c =
-    let a = c.args in
-    sym (get_or-eq_default (decode current a.frame.now) 0 (omega (arith, c.if-i-value_count.false, c.value_count.ensures)))

@@ -1,5 +1,4 @@
-use mathlib.Core.Path.{sym, ap}
-use lib.ListN.{length}
+use Rattle.std.proofs.Common.{sym, ap, length}
 use Rattle.codec.proofs.Codec.{decode-even, decode-odd}
 use Rattle.codec.proofs.value.value_count.Goals as goal
 
@@ -7,5 +6,5 @@ use Rattle.codec.proofs.value.value_count.Goals as goal
 pub returns-then-frame-eq0 : goal.returns-then-frame-eq0
 returns-then-frame-eq0 c = sym (decode-even c.args.frame.now c.if-frame-eq0.true)
 
-pub returns : goal.returns
-returns c = sym (ap length (decode-odd c.args.frame.now c.if-frame-eq0.false))
+pub returns-else-frame-eq0 : goal.returns-else-frame-eq0
+returns-else-frame-eq0 c = sym (ap length (decode-odd c.args.frame.now c.if-frame-eq0.false))

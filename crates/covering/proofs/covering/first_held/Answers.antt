@@ -1,38 +1,17 @@
-use mathlib.Core.Path.{sym, ap, ◌∙◌}
-use native.Mathlib.Omega.{arith}
-use borrow.Author.Rules.{rules}
-use borrow.Author.Tests.{lt-ltb, le-ltb}
-use lib.Dec.{ltb}
-use lib.ListN.{length}
-use Rattle.sets.proofs.Search.{seek-start, seek_hit, seek-miss, seek-none}
-use Rattle.covering.specs.Pairs.{first_held}
-use Rattle.covering.proofs.covering.first_held.Invariants.{second}
+-- `first_held` meets its contract: the first place for which there is a second.
+use Rattle.std.proofs.Common.{ℕ, ◌-◌, ◌≡◌, arith, rules, tests, length, ltb}
+use Rattle.std.proofs.lemmas.Iterator.{YieldsList-from_range}
+use Rattle.std.proofs.lemmas.Iterator.Search.{find_from_yields_List}
+use Rattle.sets.proofs.Bridges.{found-place}
+use Rattle.covering.specs.Pairs.{first_held, second_held, place_in}
+use Rattle.covering.proofs.Place.{place_test}
 use Rattle.covering.proofs.covering.first_held.Goals as goal
 
-pub loop-i-init : goal.loop-i-init
-unfolding first_held
-loop-i-init c =
-    let a = c.args in
-    (search rules, seek-start (second a.n a.sets.now) (length a.sets.now))
-
-pub returns-then-second_held-sets : goal.returns-then-second_held-sets
-returns-then-second_held-sets c =
-    let a = c.args in
-    let l = c.loop-i in
-    seek_hit (second a.n a.sets.now) (length a.sets.now) l.i _ l.invariant.1 (omega arith)
-    (ap (λ x. ltb x (length a.sets.now)) (sym c.second_held.ensures) ∙ lt-ltb _ _ c.if-second_held-sets.true)
-
-pub loop-i-preserved : goal.loop-i-preserved
-loop-i-preserved c =
-    let a = c.args in
-    let l = c.loop-i in (
-      omega arith,
-      seek-miss (second a.n a.sets.now) (length a.sets.now) l.i _ l.invariant.1 (omega arith)
-          (ap (λ x. ltb x (length a.sets.now)) (sym c.second_held.ensures) ∙ le-ltb _ _ c.if-second_held-sets.false),
-    )
-
 pub returns : goal.returns
+unfolding first_held place_in
 returns c =
     let a = c.args in
-    let l = c.loop-i in
-    seek-none (second a.n a.sets.now) (length a.sets.now) l.i _ l.invariant.1 (omega arith)
+    let test = λ (i : ℕ). ltb (second_held a.n a.sets.now i) (length a.sets.now) in
+    let whole : length a.sets.now - 0 ≡ length a.sets.now = omega arith in
+    rw whole at (found-place test 0 (length a.sets.now) _
+    (find_from_yields_List test _ _ _ c.find.ensures.ran (YieldsList-from_range 0 (length a.sets.now) _ (cc) (cc)) (λ x b q k. search (rules, tests, place_test))))

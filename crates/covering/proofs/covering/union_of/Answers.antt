@@ -2,25 +2,23 @@
 use mathlib.Core.Path.{◌≡◌, refl, ap, ◌∙◌}
 use native.Mathlib.Omega.{arith}
 use lib.ListN.{length}
-use borrow.Author.Rules.{rules}
 use Rattle.sets.specs.Sets.{union}
 use Rattle.covering.specs.Pairs.{union_of}
 use Rattle.covering.proofs.Together.{union_more}
 use Rattle.covering.proofs.covering.union_of.Goals as goal
 
-pub loop-i-init : goal.loop-i-init
+pub loop-s-init : goal.loop-s-init
 unfolding union_of
-loop-i-init c = (search rules, refl)
+loop-s-init c = refl
 
-pub loop-i-preserved : goal.loop-i-preserved
+pub loop-s-preserved : goal.loop-s-preserved
 unfolding union
-loop-i-preserved c =
-    let a = c.args in
-    let l = c.loop-i in
-    (omega arith, union_more a.sets.now l.i l.boards l.invariant.1)
+loop-s-preserved c =
+    let l = c.loop-s in
+    union_more c.args.sets.now l.s-index l.boards l.invariant
 
 pub returns : goal.returns
 returns c =
-    let a = c.args in
-    let l = c.loop-i in
-    l.invariant.1 ∙ ap (union_of a.sets.now) (let z : l.i ≡ length a.sets.now = omega arith in z)
+    let sets = c.args.sets.now in
+    let l = c.loop-s in
+    l.invariant ∙ ap (union_of sets) (let z : l.s-index ≡ length sets = omega arith in z)

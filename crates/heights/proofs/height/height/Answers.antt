@@ -1,6 +1,6 @@
 use Rattle.heights.specs.Levels.{height, largest}
 use Rattle.tables.proofs.Slots.{slots-listed}
-use Prim.Native.Nat.{min, ◌+◌, ◌-◌}
+use Prim.Native.Nat.{◌+◌}
 use mathlib.Core.Path.{◌≡◌, ap, ◌∙◌}
 use native.Mathlib.Omega.{arith}
 use lib.ListN.{length, take}
@@ -17,5 +17,4 @@ unfolding height
 returns c =
     let p = c.args.plan in
     let h : length p.sets ≡ 32 = search rules in
-    let k : c.slots_used-count.result - 0 ≡ min p.count 32 = omega arith in
-    ap (λ x. x + 1) (c.largest_with.ensures.value ∙ ap (λ x. largest x p.dealer) (ap (λ m. take m p.sets) k ∙ slots-listed p h))
+    ap (λ x. x + 1) (c.largest_with.ensures.value ∙ ap (λ x. largest x p.dealer) (ap (λ m. take m p.sets) c.slots_used-count.ensures ∙ slots-listed p h))

@@ -1,11 +1,6 @@
-use Prim.Native.Nat.{◌≤◌, ◌-◌, max}
-use mathlib.Core.Path.{◌≡◌}
-use lib.ListN.{length, drop}
+use Rattle.std.proofs.Common.{◌≡◌, ◌≤◌, max, drop}
 use Rattle.heights.specs.Levels.{largest}
 use Rattle.heights.proofs.height.largest_with.Given as goal
 
-abbrev pub invariant-loop-i : goal.invariant-loop-i
-invariant-loop-i l = (l.i ≤ length l.sets) × (max l.most (largest (drop l.i l.sets) l.d) ≡ largest l.sets l.d) × (l.most ≤ 8)
-
-abbrev pub decreases-loop-i : goal.decreases-loop-i
-decreases-loop-i l = length l.sets - l.i
+abbrev pub invariant-loop-s : goal.invariant-loop-s
+invariant-loop-s l = (max l.most (largest (drop l.s-index l.sets) l.d) ≡ largest l.sets l.d) × (l.most ≤ 8)

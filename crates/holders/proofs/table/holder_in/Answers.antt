@@ -4,11 +4,11 @@ use borrow.Author.Rules.{rules}
 use Rattle.tolerance.specs.Places.{found_at}
 use Rattle.tolerance.specs.Bytes.{byte_place}
 use Rattle.holders.specs.Holders.{holder_in}
-use Rattle.holders.proofs.Held.{get_d_any}
+use Rattle.std.proofs.lemmas.List.{get_or_default}
 use Rattle.holders.proofs.table.holder_in.Goals as goal
 
 pub returns : goal.returns
 unfolding holder_in
 returns c =
     let a = c.args in
-    c.byte_place.ensures ∙ ap (λ x. found_at (byte_place x)) (get_d_any a.holders.now a.a 0 255 (search rules))
+    c.byte_place.ensures ∙ ap (λ x. found_at (byte_place x)) (get_or_default a.holders.now a.a 0 255 (search rules))

@@ -1,5 +1,4 @@
 -- `held_at` meets its contract: the place is one of at most 32, so it fits a byte.
-use Prim.Native.Nat.{min, ◌-◌}
 use mathlib.Core.Path.{◌≡◌, ap, ◌∙◌}
 use native.Mathlib.Omega.{arith}
 use lib.ListN.{length, take}
@@ -20,9 +19,8 @@ at_place c =
     let a = c.args in
     let p = a.plan in
     let h : length p.sets ≡ 32 = search rules in
-    let k : c.slots_used-count.result - 0 ≡ min p.count 32 = omega arith in
     ap place_byte c.holder.ensures
-    ∙ ap (λ l. place_byte (found_at (holder l a.a))) (ap (λ m. take m p.sets) k ∙ slots-listed p h)
+    ∙ ap (λ l. place_byte (found_at (holder l a.a))) (ap (λ m. take m p.sets) c.slots_used.ensures ∙ slots-listed p h)
     ∙ found-byte (listed p) a.a (omega (arith, listed-few p h))
 
 pub slice_bounds-holder-end : goal.slice_bounds-holder-end

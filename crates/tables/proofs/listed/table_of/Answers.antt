@@ -1,4 +1,3 @@
-use Prim.Native.Nat.{min, ◌-◌}
 use mathlib.Core.Path.{◌≡◌, ap, ◌∙◌}
 use native.Mathlib.Omega.{arith}
 use lib.ListN.{length, take}
@@ -16,5 +15,4 @@ pub returns : goal.returns
 returns c =
     let p = c.args.plan in
     let h : length p.sets ≡ 32 = search rules in
-    let k : c.slots_used-count.result - 0 ≡ min p.count 32 = omega arith in
-    c.holders_of.ensures ∙ ap holder_table (ap (λ m. take m p.sets) k ∙ slots-listed p h)
+    c.holders_of.ensures ∙ ap holder_table (ap (λ m. take m p.sets) c.slots_used.ensures ∙ slots-listed p h)

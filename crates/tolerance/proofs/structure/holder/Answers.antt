@@ -1,37 +1,15 @@
-use Rattle.sets.specs.Structure.{holder}
-use Rattle.tolerance.specs.Places.{place_says, found_at}
-use Rattle.sets.proofs.Search.{seek-start, seek_hit, seek-miss, seek-none}
-use Rattle.sets.proofs.Tolerated.{holds, holder-empty, holder-at, holder-none}
-use lib.ListN.{length}
-use native.Mathlib.Omega.{arith}
-use mathlib.Core.Path.{sym, ap, ◌∙◌}
+-- `holder` meets its contract: the first listed set that holds a.
+use Rattle.std.proofs.Common.{rules, tests}
+use Rattle.std.proofs.lemmas.Iterator.{YieldsList-from_slice}
+use Rattle.std.proofs.lemmas.Iterator.Search.{position_from_yields_List}
+use Rattle.sets.specs.Sets.{within}
+use Rattle.tolerance.proofs.Placed.{empty-placed, placed}
 use Rattle.tolerance.proofs.structure.holder.Goals as goal
 
 pub returns-then-a-eq0 : goal.returns-then-a-eq0
-unfolding place_says found_at
-returns-then-a-eq0 c = let a = c.args in ap found_at (sym (holder-empty a.sets.now) ∙ ap (holder a.sets.now) (sym c.if-a-eq0.true))
-
-pub loop-i-init : goal.loop-i-init
-loop-i-init c = let a = c.args in (omega arith, seek-start (holds a.sets.now a.a) (length a.sets.now))
-
-pub returns-then-within : goal.returns-then-within
-unfolding place_says found_at
-returns-then-within c =
-    let a = c.args in
-    let l = c.loop-i in
-    let hit = seek_hit (holds a.sets.now a.a) (length a.sets.now) l.i _ l.invariant.1 (omega arith) (sym c.within.ensures ∙ c.if-within.true) in
-    ap found_at (sym (holder-at a.sets.now a.a l.i c.if-a-eq0.false hit (omega arith)))
-
-pub loop-i-preserved : goal.loop-i-preserved
-loop-i-preserved c =
-    let a = c.args in
-    let l = c.loop-i in
-    (omega arith, seek-miss (holds a.sets.now a.a) (length a.sets.now) l.i _ l.invariant.1 (omega arith) (sym c.within.ensures ∙ c.if-within.false))
+returns-then-a-eq0 c = empty-placed c.args.sets.now c.args.a c.if-a-eq0.true
 
 pub returns : goal.returns
-unfolding place_says found_at
 returns c =
     let a = c.args in
-    let l = c.loop-i in
-    let end = seek-none (holds a.sets.now a.a) (length a.sets.now) l.i _ l.invariant.1 (omega arith) in
-    ap found_at (sym (holder-none a.sets.now a.a l.i c.if-a-eq0.false end (omega arith)))
+    placed a.sets.now a.a _ c.if-a-eq0.false (position_from_yields_List (λ s. within a.a s) _ _ _ c.position.ensures.ran (YieldsList-from_slice a.sets.now cc) (λ x b q k. search (rules, tests)))

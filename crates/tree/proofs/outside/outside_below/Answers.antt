@@ -1,12 +1,10 @@
-use mathlib.Core.Path.{◌≡◌, sym, ap, ◌∙◌}
-use native.Mathlib.Omega.{arith}
-use Rattle.tree.specs.Places.{outside_below}
+use Rattle.std.proofs.Common.{sym, ◌∙◌, arith}
 use Rattle.tree.proofs.Boards.{outside-zero, outside-le, outside-more, outside-skip}
 use Rattle.tree.proofs.outside.outside_below.Goals as goal
 use Rattle.tree.proofs.outside.outside_below.Goals.{else-not-member, then-not-member}
 
 pub loop-i-init : goal.loop-i-init
-loop-i-init c = (omega arith, sym (outside-zero c.args.s))
+loop-i-init c = sym (outside-zero c.args.s)
 
 pub overflow_add-seen : goal.overflow_add-seen
 overflow_add-seen c =
@@ -18,12 +16,6 @@ loop-i-preserved c =
     let a = c.args in
     let l = c.loop-i in
     elim c.if-not-member.branch [
-      | then-not-member w ↦ (omega arith, omega (arith, w.seen-is, outside-more a.s l.i (sym c.member.ensures ∙ w.if-not-member.true)))
-      | else-not-member w ↦ (omega arith, omega (arith, w.seen-is, outside-skip a.s l.i (sym c.member.ensures ∙ w.if-not-member.false)))
+      | then-not-member w ↦ omega (arith, w.seen-is, outside-more a.s l.i (sym c.member.ensures ∙ w.if-not-member.true))
+      | else-not-member w ↦ omega (arith, w.seen-is, outside-skip a.s l.i (sym c.member.ensures ∙ w.if-not-member.false))
     ]
-
-pub returns : goal.returns
-returns c =
-    let a = c.args in
-    let l = c.loop-i in
-    l.invariant.1 ∙ ap (outside_below a.s) (let z : l.i ≡ a.k = omega arith in z)
