@@ -1,33 +1,21 @@
 // Reading the decision.
-ghost use Rattle.std.specs.Prelude.{◌≡◌, cond, []};
-ghost use Rattle.refusals.specs.Outcome.{taken, refused, verdict};
+ghost use Rattle.std.specs.Prelude.{◌≡◌};
 ghost use Rattle.protocol.specs.Answers.{decision_says};
 ghost use Rattle.protocol.specs.Calls.{deciding};
 
+use codec::value::Value;
 use judging::judging::judge_record;
-use protocol::answers::Decision;
 use protocol::records::Record;
-use refusals::refusal::{Refusal, Verdict, and_then};
-
-// Has the board not decided? 19.
-fn judge_undecided(decided: bool) -> Verdict
-    ensures { verdict result ≡ cond decided (taken []) (refused 19) }
-{
-    if decided {
-        return Verdict::Accepted;
-    }
-    Verdict::Refused(Refusal::Undecided)
-}
+use refusals::refusal::Refusal;
 
 // Reading the decision: 12, then 19.
-pub fn decide(r: Record) -> Decision
+#[tactic(auto, using(refusals::proofs::Outcomes::refusing), unfolding(refusals::specs::Outcome::verdict, refusals::specs::Outcome::refusal, refusals::specs::Outcome::and_then, protocol::specs::Answers::decision_says, protocol::specs::Calls::deciding))]
+pub fn decide(r: Record) -> Result<Value, Refusal>
     ensures { decision_says result ≡ deciding r }
 {
-    let record_judged = judge_record(r);
-    let decided_judged = judge_undecided(r.decided);
-    let decision = r.decision;
-    match and_then(record_judged, decided_judged) {
-        Verdict::Refused(why) => Decision::Refused(why),
-        Verdict::Accepted => Decision::Value(decision),
+    judge_record(r)?;
+    if !r.decided {
+        return Err(Refusal::Undecided);
     }
+    Ok(r.decision)
 }

@@ -10,7 +10,7 @@ use codec::value::{Value, value_at, value_count};
 use listing::listing::as_set;
 use plan::plan::Plan;
 use protocol::records::Slot;
-use refusals::refusal::{Refusal, Verdict};
+use refusals::refusal::Refusal;
 use sets::boards::member;
 
 // The dealer's value; the default for a frame of another length, or of a listed dealer.
@@ -31,18 +31,16 @@ pub fn take_word(
     q: u8,
     frame: &[u8],
     cells: &mut [Value],
-) -> Verdict
+) -> Result<(), Refusal>
     requires { First plan cells.old }
     ensures { Takes plan q list marks (eqb q plan.dealer) ([] ∷ []) (decode current frame.now) cells.old (verdict result) cells.new }
 {
-    let dealer = plan.dealer;
-    let again = member(marks, q);
-    if q != dealer {
-        return Verdict::Refused(Refusal::NotDue);
+    if q != plan.dealer {
+        return Err(Refusal::NotDue);
     }
-    if again {
-        return Verdict::Refused(Refusal::AlreadyTaken);
+    if member(marks, q) {
+        return Err(Refusal::AlreadyTaken);
     }
     cells[0] = word_of(plan, list, q, frame);
-    Verdict::Accepted
+    Ok(())
 }

@@ -1,6 +1,6 @@
 // Closing a round over a lent record.
 ghost use Rattle.std.specs.Prelude.{◌≡◌};
-ghost use Rattle.protocol.specs.Answers.{closing_says};
+ghost use Rattle.protocol.specs.Answers.{closed_record, closed_says, closing_says};
 ghost use Rattle.protocol.specs.Calls.{closing};
 ghost use Rattle.protocol.specs.Rounds.{board_with};
 ghost use Rattle.flight.specs.Lent.{lent_closing};
@@ -9,24 +9,23 @@ use closing::closing::close;
 use codec::value::Value;
 use protocol::answers::{Closed, Closing};
 use protocol::records::Record;
+use refusals::refusal::Refusal;
 
 // Closing a round over a lent record: that same record is updated.
-pub fn close_lent(r: &mut Record, cells: &mut [Value]) -> Closing
+#[tactic(auto, unfolding(crate::specs::Lent::lent_closing, protocol::specs::Answers::closing_says, protocol::specs::Answers::closed_says, protocol::specs::Answers::closed_record))]
+pub fn close_lent(r: &mut Record, cells: &mut [Value]) -> Result<Closing, Refusal>
     ensures { record { answer = closing_says result; rec = r.new; cells = cells.new } ≡ lent_closing r.old cells.old }
 {
-    let out = close(*r, cells);
-    *r = out.rec;
-    out.answer
+    let closed = close(*r, cells)?;
+    *r = closed.rec;
+    Ok(closed.closing)
 }
 
 // Closing a round by value, over `close_lent`: shows how a board lends its record.
-pub fn close_own(r: Record, cells: &mut [Value]) -> Closed
-    ensures { record { answer = closing_says result.answer; board = board_with result.rec cells.new } ≡ closing (board_with r cells.old) }
+pub fn close_own(r: Record, cells: &mut [Value]) -> Result<Closed, Refusal>
+    ensures { record { answer = closed_says result; board = board_with (closed_record r result) cells.new } ≡ closing (board_with r cells.old) }
 {
-    let mut own = r;
-    let answer = close_lent(&mut own, cells);
-    Closed {
-        answer: answer,
-        rec: own,
-    }
+    let mut rec = r;
+    let closing = close_lent(&mut rec, cells)?;
+    Ok(Closed { closing, rec })
 }

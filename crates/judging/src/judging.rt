@@ -13,113 +13,88 @@ use listing::listing::as_set;
 use plan::plan::Plan;
 use positions::positions::is_round;
 use protocol::records::Record;
-use refusals::refusal::{Refusal, Verdict, and_then};
+use refusals::refusal::Refusal;
 use schedule::rounds::{Round, Run, rounds, runs};
 use sets::boards::{all_boards, within};
 
 // The board's number: 9 and 10.
-pub fn judge_board(plan: Plan, board: u8) -> Verdict
+#[tactic(auto, unfolding(refusals::specs::Outcome::verdict, refusals::specs::Outcome::refusal, refusals::specs::Outcome::and_then, protocol::specs::Calls::judge_board, protocol::specs::Calls::judge_number, protocol::specs::Calls::judge_other))]
+pub fn judge_board(plan: Plan, board: u8) -> Result<(), Refusal>
     ensures { verdict result ≡ judge_board plan board }
 {
-    let n = plan.n;
-    let dealer = plan.dealer;
-    if n <= board {
-        return Verdict::Refused(Refusal::BoardNumber);
+    if plan.n <= board {
+        return Err(Refusal::BoardNumber);
     }
-    if board == dealer {
-        return Verdict::Refused(Refusal::BoardIsDealer);
+    if board == plan.dealer {
+        return Err(Refusal::BoardIsDealer);
     }
-    Verdict::Accepted
+    Ok(())
 }
 
 // The board's cells: 11.
-pub fn judge_cells(plan: Plan, cells: &[Value]) -> Verdict
+#[tactic(auto, unfolding(refusals::specs::Outcome::verdict, refusals::specs::Outcome::refusal))]
+pub fn judge_cells(plan: Plan, cells: &[Value]) -> Result<(), Refusal>
     ensures { verdict result ≡ cond (ltb (length cells.now) (count_within plan.n)) (refused 11) (taken []) }
 {
     if cells.len() < cell_count(plan.n) {
-        return Verdict::Refused(Refusal::ShortCells);
+        return Err(Refusal::ShortCells);
     }
-    Verdict::Accepted
-}
-
-fn is_accepted(v: Verdict) -> bool
-    ensures { result ≡ is_taken (verdict v) }
-{
-    match v {
-        Verdict::Accepted => true,
-        Verdict::Refused(_) => false,
-    }
+    Ok(())
 }
 
 // The list, the marks, the entries and the decision of a record, where the last run and the last round are these.
+#[tactic(auto, using(crate::proofs::Judged::below), unfolding(protocol::specs::Calls::good_marks, protocol::specs::Calls::good_decision))]
 fn has_good_fields(r: Record, last: Run, end: Round) -> bool
     requires { r.plan.n ≤ 8 }
     ensures { result ≡ (good_marks r && (are_good_entries last end r.list && good_decision r)) }
 {
     let all = all_boards(r.plan.n);
-    let decided = r.decided;
-    let decision = r.decision;
-    let span = r.plan.span;
-    let list = r.list;
-    if !within(as_set(list), all) {
-        return false;
-    }
-    if !within(r.marks, all) {
-        return false;
-    }
-    if !are_good_entries(last, end, list) {
-        return false;
-    }
-    if decided {
-        return decision < span;
-    }
-    true
+    within(as_set(r.list), all)
+        && within(r.marks, all)
+        && are_good_entries(last, end, r.list)
+        && (!r.decided || r.decision < r.plan.span)
 }
 
 // Is it a record that 12 does not refuse?
+#[tactic(auto, using(crate::proofs::Judged::good_by), unfolding(protocol::specs::Calls::good_record, protocol::specs::Calls::good_plan, protocol::specs::Calls::good_position))]
 fn is_good(r: Record) -> bool
     ensures { result ≡ good_record r }
 {
-    if !is_accepted(r.plan.judge()) {
-        return false;
-    }
-    if !is_accepted(judge_board(r.plan, r.board)) {
-        return false;
-    }
     let last = runs(r.plan);
     let end = rounds(r.plan);
-    if !is_round(last, end, r.run, r.round) {
-        return false;
-    }
-    has_good_fields(r, last, end)
+    r.plan.judge().is_ok()
+        && judge_board(r.plan, r.board).is_ok()
+        && is_round(last, end, r.run, r.round)
+        && has_good_fields(r, last, end)
 }
 
 // The record: 12.
-pub fn judge_record(r: Record) -> Verdict
+#[tactic(auto, unfolding(refusals::specs::Outcome::verdict, refusals::specs::Outcome::refusal, protocol::specs::Calls::judge_record))]
+pub fn judge_record(r: Record) -> Result<(), Refusal>
     ensures { verdict result ≡ judge_record r }
 {
     if is_good(r) {
-        return Verdict::Accepted;
+        return Ok(());
     }
-    Verdict::Refused(Refusal::BadRecord)
+    Err(Refusal::BadRecord)
 }
 
 // Has the board decided? 13.
-fn judge_decided(decided: bool) -> Verdict
+#[tactic(auto, unfolding(refusals::specs::Outcome::verdict, refusals::specs::Outcome::refusal))]
+fn judge_decided(decided: bool) -> Result<(), Refusal>
     ensures { verdict result ≡ judge_decided decided }
 {
     if decided {
-        return Verdict::Refused(Refusal::Decided);
+        return Err(Refusal::Decided);
     }
-    Verdict::Accepted
+    Ok(())
 }
 
 // 12, 11, 13.
-pub fn judge_open(r: Record, cells: &[Value]) -> Verdict
+pub fn judge_open(r: Record, cells: &[Value]) -> Result<(), Refusal>
     ensures { verdict result ≡ judge_open (board_with r cells.now) }
 {
-    let record_judged = judge_record(r);
-    let cells_judged = judge_cells(r.plan, cells);
-    let decided_judged = judge_decided(r.decided);
-    and_then(record_judged, and_then(cells_judged, decided_judged))
+    judge_record(r)?;
+    judge_cells(r.plan, cells)?;
+    judge_decided(r.decided)
 }

@@ -1,7 +1,7 @@
 -- What handing in leaves, by what taking the frame leaves.
 -- Assumes nothing.
 use Prim.Native.Nat.{ℕ, ◌<◌}
-use mathlib.Core.Path.{◌≡◌, refl, sym, subst, ap, ap₂, ◌∙◌}
+use mathlib.Core.Path.{◌≡◌, refl, sym, ap, ap₂, ◌∙◌}
 use mathlib.Core.Logic.{◌≢◌}
 use mathlib.Core.Bool.{true, ◌&&◌}
 use mathlib.Core.List.{List, []}
@@ -9,12 +9,14 @@ use native.Mathlib.Omega.{arith}
 use lib.Dec.{ltb}
 use borrow.Author.Tests.{ne_eqb, ltb-true}
 use Rattle.codec.specs.Codec.{current, decode}
+use Rattle.sets.specs.Sets.{insert}
 use Rattle.sets.proofs.Tests.{cases, and_l}
 use Rattle.plan.specs.declared.plan.Plan.{Plan}
 use Rattle.schedule.specs.declared.rounds.Round.{Round}
 use Rattle.refusals.specs.Outcome.{Outcome, taken, refused}
 use Rattle.refusals.proofs.Outcomes.{taken-first, refused-first}
 use Rattle.protocol.specs.declared.records.Record.{Record}
+use Rattle.protocol.specs.declared.records.Slot.{Slot}
 use Rattle.protocol.specs.Nodes.{sent, due}
 use Rattle.protocol.specs.Rounds.{board_with, Board, receive}
 use Rattle.protocol.specs.Calls.{is_taken, judge_open, judge_receiving, taking, receiving}
@@ -39,33 +41,34 @@ module _ (r : Record) (cells : List ℕ) (q : ℕ) (f : List ℕ) where
       let j = judged-closed (λ z. ne (ap (λ (x : Outcome). x.number) e ∙ z)) in
       rw (j, sym e, ne_eqb o.number 0 ne) refl
 
-  abbrev Taken : Outcome → List ℕ → Type 0
-  Taken o after =
-      Takes r.plan q r.list r.marks (due r.plan q r.board r.round) (sent r.plan q r.board r.round) (decode current f) cells o after
+  -- Whose frames count as the default matters only for a frame that is taken.
+  abbrev Taken : List Slot → Outcome → List ℕ → Type 0
+  Taken list o after =
+      Takes r.plan q list r.marks (due r.plan q r.board r.round) (sent r.plan q r.board r.round) (decode current f) cells o after
 
-  judged-so : (judge_open b).number ≡ 0 → (o : Outcome) (after : List ℕ) → Taken o after → judge_receiving b q ≡ o
-  unfolding judge_receiving
-  judged-so e o after t = taken-first (judge_open b) _ e ∙ sym t.answer
+  module _ (e : (judge_open b).number ≡ 0) where
+    judged-so : (list : List Slot) (o : Outcome) (after : List ℕ) → Taken list o after → judge_receiving b q ≡ o
+    unfolding judge_receiving
+    judged-so list o after t = taken-first (judge_open b) _ e ∙ sym t.answer
 
-  module _ (e : (judge_open b).number ≡ 0) (x : Outcome) (after : List ℕ) (t : Taken x after) where
-    pub receive-refused : (o : Outcome) → x ≡ o → o.number ≢ 0 → record { answer = o; board = board_with r after } ≡ receiving b q f
+    pub receive-refused : (list : List Slot) (o : Outcome) (after : List ℕ) → Taken list o after → o.number ≢ 0
+        → record { answer = o; board = board_with r after } ≡ receiving b q f
     unfolding receiving taking is_taken
-    receive-refused o z ne =
-        let y = subst (λ v. Taken v after) z t in
+    receive-refused list o after t ne =
         let no = ne_eqb o.number 0 ne in
-        ap (λ left. record { answer = o; board = board_with r left }) (rw no at y.cells) ∙ rw (judged-so e o after y, no) refl
+        ap (λ left. record { answer = o; board = board_with r left }) (rw no at t.cells) ∙ rw (judged-so list o after t, no) refl
 
-    pub receive-taken : x ≡ taken [] → (next : Record) → next ≡ (receive q (decode current f) b).rec → record { answer = taken []; board = board_with next after } ≡ receiving b q f
+    pub receive-taken : (after : List ℕ) → Taken r.list (taken []) after → (marks : ℕ) → marks ≡ insert q r.marks
+        → record { answer = taken []; board = board_with (record r { marks = marks }) after } ≡ receiving b q f
     unfolding receiving taking receive is_taken
-    receive-taken z next m =
-        let y = subst (λ v. Taken v after) z t in
-        ap₂ (λ v left. record { answer = taken []; board = board_with v left }) m y.cells ∙ rw (judged-so e (taken []) after y) refl
+    receive-taken after t marks m =
+        ap₂ (λ k left. record { answer = taken []; board = board_with (record r { marks = k }) left }) m t.cells ∙ rw (judged-so r.list (taken []) after t) refl
 
     -- A frame that is taken was due.
-    taken-due : x ≡ taken [] → due r.plan q r.board r.round ≡ true
-    taken-due z =
+    taken-due : (list : List Slot) (after : List ℕ) → Taken list (taken []) after → due r.plan q r.board r.round ≡ true
+    taken-due list after t =
         cases (due r.plan q r.board r.round) (λ y. y)
-        (λ y. absurd (let w : taken [] ≡ refused 14 = sym z ∙ rw y at t.answer in let v : 0 ≡ 14 = ap (λ (o : Outcome). o.number) w in omega arith))
+        (λ y. absurd (let w : taken [] ≡ refused 14 = rw y at t.answer in let v : 0 ≡ 14 = ap (λ (o : Outcome). o.number) w in omega arith))
 
-    pub taken-small : x ≡ taken [] → q < 8
-    taken-small z = omega (arith, due_below r.plan q r.board r.round (taken-due z), (open-stands b e).standing.most-boards)
+    pub taken-small : (list : List Slot) (after : List ℕ) → Taken list (taken []) after → q < 8
+    taken-small list after t = omega (arith, due_below r.plan q r.board r.round (taken-due list after t), (open-stands b e).standing.most-boards)

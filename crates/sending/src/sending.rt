@@ -8,33 +8,28 @@ ghost use Rattle.protocol.specs.Rounds.{board_with};
 
 use crate::later::write_later;
 use codec::value::Value;
+use frames::seat::Seat;
 use judging::judging::judge_open;
-use plan::plan::Plan;
-use protocol::answers::Sent;
 use protocol::records::Record;
-use refusals::refusal::{Refusal, Verdict};
-use schedule::rounds::Round;
-use tables::listed::table_of;
+use refusals::refusal::Refusal;
+use tables::asking::TabledPlan;
 
 // 16, 17, then the frame is written. In round 1 only the dealer sends.
-fn write(plan: Plan, board: u8, round: Round, cells: &[Value], out: &mut [u8]) -> Sent
-    requires { InRound plan board round cells.now }
-    ensures { Writes plan board round cells.now out.old (sent_says result) out.new }
+fn write(r: Record, cells: &[Value], out: &mut [u8]) -> Result<usize, Refusal>
+    requires { InRound r.plan r.board r.round cells.now }
+    ensures { Writes r.plan r.board r.round cells.now out.old (sent_says result) out.new }
 {
-    let k = round.0;
-    if k == 1 {
-        return Sent::Refused(Refusal::NothingToSend);
+    if r.round.0 == 1 {
+        return Err(Refusal::NothingToSend);
     }
-    let holders = table_of(plan);
-    write_later(plan, &holders, board, round, cells, out)
+    let seat = Seat::new(TabledPlan::new(r.plan), r.board, r.run, r.round);
+    write_later(&seat, cells, out)
 }
 
 // Writing a frame.
-pub fn send(r: Record, cells: &[Value], out: &mut [u8]) -> Sent
+pub fn send(r: Record, cells: &[Value], out: &mut [u8]) -> Result<usize, Refusal>
     ensures { record { answer = sent_says result; out = out.new } ≡ sending (board_with r cells.now) out.old }
 {
-    match judge_open(r, cells) {
-        Verdict::Refused(why) => Sent::Refused(why),
-        Verdict::Accepted => write(r.plan, r.board, r.round, cells, out),
-    }
+    judge_open(r, cells)?;
+    write(r, cells, out)
 }

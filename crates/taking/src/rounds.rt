@@ -8,34 +8,34 @@ ghost use Rattle.first_round.specs.Takes.{Takes};
 use crate::later::take_later;
 use codec::value::Value;
 use first_round::word::take_word;
+use frames::seat::Seat;
 use plan::plan::Plan;
 use protocol::records::Slot;
-use refusals::refusal::{Refusal, Verdict};
-use schedule::rounds::Round;
-use tables::listed::table_of;
+use refusals::refusal::Refusal;
+use schedule::rounds::{Round, Run};
+use tables::asking::TabledPlan;
 
 // 14, 15, then the frame is stored.
 pub fn take(
     plan: Plan,
     board: u8,
+    run: Run,
     round: Round,
     list: [Slot; 7],
     marks: u8,
     q: u8,
     frame: &[u8],
     cells: &mut [Value],
-) -> Verdict
+) -> Result<(), Refusal>
     requires { InRound plan board round cells.old }
     ensures { Takes plan q list marks (due plan q board round) (sent plan q board round) (decode current frame.now) cells.old (verdict result) cells.new }
 {
-    let n = plan.n;
-    let k = round.0;
-    if n <= q {
-        return Verdict::Refused(Refusal::NotDue);
+    if plan.n <= q {
+        return Err(Refusal::NotDue);
     }
-    if k == 1 {
+    if round.0 == 1 {
         return take_word(plan, list, marks, q, frame, cells);
     }
-    let holders = table_of(plan);
-    take_later(plan, &holders, board, round, list, marks, q, frame, cells)
+    let seat = Seat::new(TabledPlan::new(plan), board, run, round);
+    take_later(&seat, list, marks, q, frame, cells)
 }

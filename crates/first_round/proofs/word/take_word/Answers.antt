@@ -10,18 +10,18 @@ use Rattle.tree.proofs.Places.{some-cell}
 use Rattle.first_round.proofs.Takes.{takes_none, takes-again, takes-root}
 use Rattle.first_round.proofs.word.take_word.Goals as goal
 
-pub returns-then-q-dealer : goal.returns-then-q-dealer
+pub returns-then-q-plan : goal.returns-then-q-plan
 unfolding verdict refusal
-returns-then-q-dealer c =
+returns-then-q-plan c =
     let a = c.args in
-    takes_none a.plan a.q a.list a.marks (eqb a.q a.plan.dealer) ([] ∷ []) (decode current a.frame.now) a.cells.now (ne_eqb _ _ c.if-q-dealer.true)
+    takes_none a.plan a.q a.list a.marks (eqb a.q a.plan.dealer) ([] ∷ []) (decode current a.frame.now) a.cells.now (ne_eqb _ _ c.if-q-plan.true)
 
-pub returns-then-again : goal.returns-then-again
+pub returns-then-member : goal.returns-then-member
 unfolding verdict refusal
-returns-then-again c =
+returns-then-member c =
     let a = c.args in
     takes-again a.plan a.q a.list a.marks (eqb a.q a.plan.dealer) ([] ∷ []) (decode current a.frame.now) a.cells.now
-    (eq-eqb a.q a.plan.dealer (omega arith)) (sym c.member-again.ensures ∙ c.if-again.true)
+    (eq-eqb a.q a.plan.dealer (omega arith)) (sym c.member.ensures ∙ c.if-member.true)
 
 pub bounds-cells-0 : goal.bounds-cells-0
 bounds-cells-0 c =
@@ -32,4 +32,4 @@ unfolding verdict
 returns c =
     let a = c.args in
     takes-root a.plan a.list a.q (decode current a.frame.now) a.marks (eqb a.q a.plan.dealer) a.cells.now _
-    (eq-eqb _ _ c.if-q-dealer.false) (sym c.member-again.ensures ∙ c.if-again.false) c.word_of.ensures
+    (eq-eqb _ _ c.if-q-plan.false) (sym c.member.ensures ∙ c.if-member.false) c.word_of.ensures

@@ -13,44 +13,44 @@ use Rattle.sending.proofs.later.write_later.Goals as goal
 
 pub carried_nodes-count-requires : goal.carried_nodes-count-requires
 carried_nodes-count-requires c =
-    carried-walkable c.requires.standing c.requires.later c.args.board c.requires.standing.board-below _ refl
+    carried-walkable c.args.seat.now.standing c.requires.later c.args.seat.now.board c.args.seat.now.standing.board-below _ refl
 
 pub overflow_mul-length : goal.overflow_mul-length
 overflow_mul-length c =
     let x = c.carried_nodes-count in
-    search (rules, front_fits c.requires.standing c.requires.later c.args.board x.ensures c.requires.standing.board-below x.auto.nodes, x.auto.nodes)
+    search (rules, front_fits c.args.seat.now.standing c.requires.later c.args.seat.now.board x.ensures c.args.seat.now.standing.board-below x.auto.nodes, x.auto.nodes)
 
-pub returns-then-idle : goal.returns-then-idle
+pub returns-then-is_idle : goal.returns-then-is_idle
 unfolding sent_says refusal
-returns-then-idle c =
+returns-then-is_idle c =
     let a = c.args in
-    later-none c.requires.standing c.requires.later a.cells.now a.out.now c.carried_nodes-count.result c.carried_nodes-count.ensures.counted
-    (sym c.is_idle-idle.ensures ∙ c.if-idle.true)
+    later-none c.args.seat.now.standing c.requires.later a.cells.now a.out.now c.carried_nodes-count.result c.carried_nodes-count.ensures.counted
+    (sym c.is_idle.ensures ∙ c.if-is_idle.true)
 
 pub returns-then-out-length : goal.returns-then-out-length
 unfolding sent_says refusal
 returns-then-out-length c =
     let a = c.args in
-    let busy : c.is_idle-idle.result ≡ false = search rules in
-    later-short c.requires.standing c.requires.later a.cells.now a.out.now c.carried_nodes-count.result c.carried_nodes-count.ensures.counted
-    (sym c.is_idle-idle.ensures ∙ busy) c.if-out-length.true
+    let busy : c.is_idle.result ≡ false = search rules in
+    later-short c.args.seat.now.standing c.requires.later a.cells.now a.out.now c.carried_nodes-count.result c.carried_nodes-count.ensures.counted
+    (sym c.is_idle.ensures ∙ busy) (omega (arith, c.if-out-length.true))
 
 pub slice_bounds-write_at-end : goal.slice_bounds-write_at-end
 slice_bounds-write_at-end c =
     let x = c.carried_nodes-count in
-    front_fits c.requires.standing c.requires.later c.args.board x.ensures c.requires.standing.board-below x.auto.nodes
+    front_fits c.args.seat.now.standing c.requires.later c.args.seat.now.board x.ensures c.args.seat.now.standing.board-below x.auto.nodes
 
 pub write_at-requires : goal.write_at-requires
 write_at-requires c =
     let x = c.carried_nodes-count in
-    record { are-nodes = front-nodes c.requires.standing c.requires.later c.args.board x.ensures; enough = c.requires.enough; room = omega (arith, length-take x.result x.new.nodes, c.if-out-length.false) }
+    record { are-nodes = front-nodes c.args.seat.now.standing c.requires.later c.args.seat.now.board x.ensures; enough = c.requires.enough; room = omega (arith, length-take x.result x.new.nodes, c.if-out-length.false) }
 
 pub returns : goal.returns
 unfolding sent_says
 returns c =
     let a = c.args in
     let x = c.carried_nodes-count in
-    later-all c.requires.standing c.requires.later a.cells.now a.out.now x.result x.ensures.counted
-    (sym c.is_idle-idle.ensures ∙ c.if-idle.false) c.if-out-length.false _ _ _
-    (front-labels c.requires.standing c.requires.later a.board x.ensures)
-    (sym (labels_length a.plan (a.round.0 - 1) (take (x.result - 0) x.new.nodes))) c.write_at.ensures
+    later-all c.args.seat.now.standing c.requires.later a.cells.now a.out.now x.result x.ensures.counted
+    (sym c.is_idle.ensures ∙ c.if-is_idle.false) c.if-out-length.false _ _ _
+    (front-labels c.args.seat.now.standing c.requires.later a.seat.now.board x.ensures)
+    (sym (labels_length a.seat.now.tabled.plan (a.seat.now.round.0 - 1) (take (x.result - 0) x.new.nodes))) c.write_at.ensures

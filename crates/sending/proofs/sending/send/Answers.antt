@@ -1,6 +1,6 @@
 -- `send` meets its contract: what writing leaves.
-use mathlib.Core.Path.{sym, ap, ◌∙◌}
-use Rattle.refusals.specs.Outcome.{Outcome, refusal, verdict}
+use Rattle.std.proofs.Common.{◌≡◌, ap, sym, Err, rules}
+use Rattle.refusals.specs.Outcome.{refusal, verdict}
 use Rattle.refusals.proofs.Outcomes.{refusal-number}
 use Rattle.protocol.specs.Answers.{sent_says}
 use Rattle.frames.proofs.Standing.{open-stands}
@@ -10,21 +10,18 @@ use Rattle.sending.proofs.sending.send.Goals as goal
 
 pub write-requires : goal.write-requires
 unfolding verdict
-write-requires c =
-    let a = c.args in
-    open-stands (board_with a.r a.cells.now)
-    (ap (λ (o : Outcome). o.number) (sym (ap verdict (sym c.in-Accepted.is) ∙ c.judge_open.ensures)))
+write-requires c = open-stands (board_with c.args.r c.args.cells.now) (ap (λ o. o.number) (sym c.in_ok-judge_open.ensures))
 
-pub returns-in-Refused : goal.returns-in-Refused
+pub returns-in_err-judge_open : goal.returns-in_err-judge_open
 unfolding sent_says verdict
-returns-in-Refused c =
+returns-in_err-judge_open c =
     let a = c.args in
-    send-closed a.r a.cells.now a.out.now (refusal c.in-Refused.why)
-    (ap verdict (sym c.in-Refused.is) ∙ c.judge_open.ensures) (refusal-number c.in-Refused.why)
+    let why = c.in_err-judge_open.field-0.0 in
+    let is : c.from_residual.result ≡ Err why = search rules in
+    rw is (send-closed a.r a.cells.now a.out.now (refusal why) c.in_err-judge_open.ensures (refusal-number why))
 
-pub returns-in-Accepted : goal.returns-in-Accepted
+pub returns : goal.returns
 unfolding verdict
-returns-in-Accepted c =
+returns c =
     let a = c.args in
-    send-open a.r a.cells.now a.out.now
-    (ap (λ (o : Outcome). o.number) (sym (ap verdict (sym c.in-Accepted.is) ∙ c.judge_open.ensures))) _ _ c.write.ensures
+    send-open a.r a.cells.now a.out.now (ap (λ o. o.number) (sym c.in_ok-judge_open.ensures)) _ _ c.write.ensures
