@@ -1,25 +1,14 @@
 -- Rule C at a node, over cells that hold what each node resolved to. A middle layer: `passes` with `by_resolving` of protocol/Detection is the
 -- definition.
-use Rattle.std.specs.Prelude.{ℕ, ◌+◌, ◌/◌, ◌%◌, ◌≤◌, ◌<◌, ◌≡◌, Bool, false, ◌||◌, List, length, get_or}
+use Rattle.std.specs.Prelude.{ℕ, ◌+◌, ◌/◌, ◌%◌, Bool, ◌||◌, List, get_or}
 use Rattle.std.proofs.Math.Option.{Option, some}
 use Rattle.sets.specs.Sets.{member}
 use Rattle.plan.specs.declared.plan.Plan.{Plan}
-use Rattle.tables.specs.Tabled.{Tabled}
 use Rattle.tree.specs.Places.{outside_below}
 use Rattle.protocol.specs.declared.records.Slot.{Slot}
 use Rattle.protocol.specs.Listing.{as_set}
 use Rattle.voting.specs.Worth.{child_table}
 use Rattle.voting.specs.Tables.{explained_by}
-
--- The children's cells are there.
-pub record Beside (n s from : ℕ) (cells : List ℕ) : Type 0 where
-  pub few : n ≤ 8
-  pub there : (c : ℕ) → c < n → member c s ≡ false → from + outside_below s c < length cells
-
--- The plan's table of holders, and the children's cells of node x.
-pub record Explainable (p : Plan) (holders : List ℕ) (from x : ℕ) (cells : List ℕ) : Type 0 where
-  pub tabled : Tabled p holders
-  pub beside : Beside p.n (x % 128) from cells
 
 -- As the code goes: x is the node as one number, and its children's cells stand side by side from `from`.
 abbrev pub standing_from : List ℕ → ℕ → ℕ → ℕ → Option ℕ

@@ -3,14 +3,14 @@ ghost use Rattle.resolving.specs.Promises.{Convertible};
 ghost use Rattle.conversion.specs.Promises.{Converts};
 
 use codec::value::Value;
-use plan::plan::Plan;
 use protocol::records::Slot;
 use resolving::resolving::resolve_root;
 use rule_c::rule_c::detect_levels;
 use schedule::rounds::{Round, Run, rounds};
+use tables::asking::TabledPlan;
 
 // The resolved root, and the list.
-#[derive(Clone, Copy)]
+#[derive(Clone, Copy, Debug, PartialEq, Eq)]
 pub struct Converted {
     pub root: Value,
     pub list: [Slot; 7],
@@ -18,23 +18,18 @@ pub struct Converted {
 
 // The cells are left as resolving in place leaves them; the caller blanks all but the root.
 pub fn convert_cells(
-    plan: Plan,
-    holders: &[u8],
+    tabled: &TabledPlan,
     board: u8,
     run: Run,
     round: Round,
     list: [Slot; 7],
     cells: &mut [Value],
 ) -> Converted
-    requires { Convertible plan holders.now board cells.old }
-    ensures { Converts plan board run round list result.root result.list cells.old cells.new }
+    requires { Convertible tabled.now.plan tabled.now.holders board cells.old }
+    ensures { Converts tabled.now.plan board run round list result.root result.list cells.old cells.new }
 {
-    let last = rounds(plan);
-    let top = last.0;
-    let root = resolve_root(plan, holders, board, top, cells);
-    let found = detect_levels(plan, holders, board, run, round, top, list, cells);
-    Converted {
-        root: root,
-        list: found,
-    }
+    let Round(top) = rounds(tabled.plan);
+    let root = resolve_root(tabled, board, top, cells);
+    let found = detect_levels(tabled, board, run, round, top, list, cells);
+    Converted { root, list: found }
 }

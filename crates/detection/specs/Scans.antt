@@ -6,11 +6,10 @@ use Rattle.plan.specs.Listed.{listed}
 use Rattle.schedule.specs.declared.rounds.Round.{Round}
 use Rattle.tree.specs.Labels.{mask}
 use Rattle.tree.specs.Places.{cell_count}
-use Rattle.frames.specs.Nodes.{Standing, Nodes, node_at}
+use Rattle.frames.specs.Nodes.{Nodes, node_at}
 
 -- Nodes of the level before the round's, whose boards are tolerated.
-pub record Scans (p : Plan) (holders : List ℕ) (board : ℕ) (k : Round) (nodes cells : List ℕ) : Type 0 where
-  pub standing : Standing p holders board k
+pub record Scans (p : Plan) (k : Round) (nodes cells : List ℕ) : Type 0 where
   pub later : 2 ≤ k.0
   pub enough : cell_count p.n ≤ length cells
   pub are-nodes : Nodes p (k.0 - 1) nodes

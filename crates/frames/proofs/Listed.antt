@@ -27,7 +27,7 @@ use Rattle.internal.specs.Numbers.{code}
 use Rattle.walk.specs.Listing.{Walkable, Lists}
 use Rattle.internal.proofs.Codes.{Coded, label-coded}
 use Rattle.frames.proofs.Places.{at_sum, child-sum, child-lt}
-use Rattle.frames.specs.Nodes.{Standing, node_at, IsNode, labels_of, Nodes, Without}
+use Rattle.frames.specs.Nodes.{Standing, node_at, IsNode, labels_of, Nodes, Without, Storable}
 
 -- From place i on: the node there, and the rest.
 pub labels-drop : (p : Plan) (level i : ℕ) (nodes : List ℕ) → i < length nodes
@@ -85,13 +85,10 @@ module _ (p : Plan) (level : ℕ) (ld : p.dealer < p.n) (most : p.n ≤ 7) where
     are-nodes j l = subst (IsNode p level) (sym (at_place j)) (is-node (get_or αs j []) (h (get_or αs j []) (at_mem j l)))
 
     -- What holds of the labels holds of what the numbers stand for.
-    pub node-has : (P : Label → Type 0) → ((α : Label) → Memᴰ α αs → P α)
+    node-has : (P : Label → Type 0) → ((α : Label) → Memᴰ α αs → P α)
         → (j : ℕ) → j < length (map (code p.n) αs) → P (node_at p level (get_or (map (code p.n) αs) j 0))
     node-has P f j l =
         subst P (sym (ap (node_at p level) (at_place j) ∙ node-is (get_or αs j []) (h (get_or αs j []) (at_mem j l)))) (f (get_or αs j []) (at_mem j l))
-
-    pub nodes-without : (q : ℕ) → ((α : Label) → Memᴰ α αs → occurs q α ≡ false) → Without p level q (map (code p.n) αs)
-    nodes-without q f = node-has (λ α. occurs q α ≡ false) f
 
 -- At place i of a list: the cells of the node and of its child by board q.
 module _ {p : Plan} {level : ℕ} {nodes : List ℕ} (ns : Nodes p level nodes) (i : ℕ) (h : i < length nodes) where
@@ -124,57 +121,69 @@ lists-front p count αs before after l =
     ap (take count) l.content
     ∙ take_at (map (code p.n) αs) (drop count before) count (let z : length (map (code p.n) αs) ≡ count = omega (arith, l.counted, length-map αs (code p.n)) in z)
 
--- What a frame of board q carries in a round after the first.
+-- Labels of the level before a round after the first.
 module _ {p : Plan} {holders : List ℕ} {board : ℕ} {k : Round} (s : Standing p holders board k) (later : 2 ≤ k.0) where
   abbrev level : ℕ
   level = k.0 - 1
 
+  module _ (αs : List Label) where
+    walkable : (nodes : List ℕ) → length αs ≤ length nodes → Walkable p level αs holders nodes
+    walkable nodes room = record {
+      some-board = s.some-board;
+      most-boards = s.most-boards;
+      dealer-below = s.dealer-below;
+      level-low = omega arith;
+      level-most = omega (arith, s.round-high, s.rounds-most);
+      level-high = omega (arith, s.round-high);
+      table = s.table;
+      room = room;
+    }
+
+    -- The front of the list that the walk leaves for them, as a part of an array.
+    module _ (h : (α : Label) → Memᴰ α αs → Memᴰ α (labels p.n p.dealer level)) {count : ℕ} {before after : List ℕ} (l : Lists p count αs before after) where
+      front : take (count - 0) after ≡ map (code p.n) αs
+      front = ap (λ x. take x after) (let z : count - 0 ≡ count = omega arith in z) ∙ lists-front p count αs before after l
+
+      nodes-of : Nodes p level (take (count - 0) after)
+      nodes-of = subst (Nodes p level) (sym front) (record {
+        some-board = s.some-board;
+        most-boards = s.most-boards;
+        dealer-below = s.dealer-below;
+        level-below = omega (arith, s.round-high, s.rounds-most);
+        are = are-nodes p level s.dealer-below s.most-boards αs h;
+      })
+
+      names-of : labels_of p level (take (count - 0) after) ≡ αs
+      names-of = ap (labels_of p level) front ∙ labels-of p level s.dealer-below s.most-boards αs h
+
+      -- What holds of the labels holds of what stands there.
+      all-of : (P : Label → Type 0) → ((α : Label) → Memᴰ α αs → P α)
+          → (j : ℕ) → j < length (take (count - 0) after) → P (node_at p level (get_or (take (count - 0) after) j 0))
+      all-of P f =
+          subst (λ nodes. (j : ℕ) → j < length nodes → P (node_at p level (get_or nodes j 0))) (sym front)
+          (node-has p level s.dealer-below s.most-boards αs h P f)
+
+  -- The internal nodes.
   inner-labels : (α : Label) → Memᴰ α (inner p board level) → Memᴰ α (labels p.n p.dealer level)
   inner-labels α m = node-label p board level α (inner-inv p board level α m).0
 
   pub inner-walkable : (nodes : List ℕ) → length (inner p board level) ≤ length nodes → Walkable p level (inner p board level) holders nodes
-  inner-walkable nodes room = record {
-    some-board = s.some-board;
-    most-boards = s.most-boards;
-    dealer-below = s.dealer-below;
-    level-low = omega arith;
-    level-most = omega (arith, s.round-high, s.rounds-most);
-    level-high = omega (arith, s.round-high);
-    table = s.table;
-    room = room;
-  }
+  inner-walkable = walkable (inner p board level)
 
-  inner-nodes : Nodes p level (map (code p.n) (inner p board level))
-  inner-nodes = record {
-    some-board = s.some-board;
-    most-boards = s.most-boards;
-    dealer-below = s.dealer-below;
-    level-below = omega (arith, s.round-high, s.rounds-most);
-    are = are-nodes p level s.dealer-below s.most-boards (inner p board level) inner-labels;
-  }
-
-  inner-labels-of : labels_of p level (map (code p.n) (inner p board level)) ≡ inner p board level
-  inner-labels-of = labels-of p level s.dealer-below s.most-boards (inner p board level) inner-labels
-
-  -- The front of the list that the walk leaves for them, as a part of an array.
   module _ {count : ℕ} {before after : List ℕ} (l : Lists p count (inner p board level) before after) where
-    inner-front : take (count - 0) after ≡ map (code p.n) (inner p board level)
-    inner-front = ap (λ x. take x after) (let z : count - 0 ≡ count = omega arith in z) ∙ lists-front p count (inner p board level) before after l
-
     pub inner-front-nodes : Nodes p level (take (count - 0) after)
-    inner-front-nodes = subst (Nodes p level) (sym inner-front) inner-nodes
+    inner-front-nodes = nodes-of (inner p board level) inner-labels l
 
     pub inner-front-labels : labels_of p level (take (count - 0) after) ≡ inner p board level
-    inner-front-labels = ap (labels_of p level) inner-front ∙ inner-labels-of
+    inner-front-labels = names-of (inner p board level) inner-labels l
 
-    -- They are internal.
     pub inner-front-held : (j : ℕ) → j < length (take (count - 0) after)
         → tolerated (listed p) (mask (node_at p level (get_or (take (count - 0) after) j 0))) ≡ true
     inner-front-held =
-        subst (λ nodes. (j : ℕ) → j < length nodes → tolerated (listed p) (mask (node_at p level (get_or nodes j 0))) ≡ true) (sym inner-front)
-        (node-has p level s.dealer-below s.most-boards (inner p board level) inner-labels (λ α. tolerated (listed p) (mask α) ≡ true)
-        (λ α m. internal-tol p board α (inner-inv p board level α m).1))
+        all-of (inner p board level) inner-labels l (λ α. tolerated (listed p) (mask α) ≡ true)
+        (λ α m. internal-tol p board α (inner-inv p board level α m).1)
 
+  -- What a frame of board q carries.
   module _ (q : ℕ) where
     abbrev αs : List Label
     αs = carried p q board level
@@ -187,56 +196,31 @@ module _ {p : Plan} {holders : List ℕ} {board : ℕ} {k : Round} (s : Standing
     carried-labels α m = inner-labels α (carried-both α m).0
 
     pub carried-walkable : q < p.n → (nodes : List ℕ) → length nodes ≡ 120 → Walkable p level αs holders nodes
-    carried-walkable lq nodes e = record {
-      some-board = s.some-board;
-      most-boards = s.most-boards;
-      dealer-below = s.dealer-below;
-      level-low = omega arith;
-      level-most = omega (arith, s.round-high, s.rounds-most);
-      level-high = omega (arith, s.round-high);
-      table = s.table;
-      room = omega (arith, carried-few p q board level s.dealer-below s.most-boards lq);
-    }
-
-    pub carried-nodes : Nodes p level (map (code p.n) αs)
-    carried-nodes = record {
-      some-board = s.some-board;
-      most-boards = s.most-boards;
-      dealer-below = s.dealer-below;
-      level-below = omega (arith, s.round-high, s.rounds-most);
-      are = are-nodes p level s.dealer-below s.most-boards αs carried-labels;
-    }
-
-    pub carried-without : Without p level q (map (code p.n) αs)
-    carried-without =
-        nodes-without p level s.dealer-below s.most-boards αs carried-labels q (λ α m. not_t (occurs q α) (carried-both α m).1)
-
-    pub carried-labels-of : labels_of p level (map (code p.n) αs) ≡ αs
-    carried-labels-of = labels-of p level s.dealer-below s.most-boards αs carried-labels
+    carried-walkable lq nodes e = walkable αs nodes (omega (arith, carried-few p q board level s.dealer-below s.most-boards lq))
 
     -- It is the whole frame.
     pub sent-carried : sent p q board k ≡ αs
     unfolding sent
     sent-carried = rw (ne_eqb k.0 1 (omega arith))
 
-    -- The front of the list that the walk leaves, as a part of an array.
     module _ {count : ℕ} {before after : List ℕ} (l : Lists p count αs before after) where
-      front : take (count - 0) after ≡ map (code p.n) αs
-      front = ap (λ x. take x after) (let z : count - 0 ≡ count = omega arith in z) ∙ lists-front p count αs before after l
-
       pub front_fits : q < p.n → length after ≡ 120 → count ≤ length after
       front_fits lq e =
           omega (arith, l.counted, carried-few p q board level s.dealer-below s.most-boards lq)
 
       pub front-few : q < p.n → length (take (count - 0) after) ≤ 120
       front-few lq =
-          omega (arith, ap length front, length-map αs (code p.n), carried-few p q board level s.dealer-below s.most-boards lq)
+          omega (arith, ap length (front αs carried-labels l), length-map αs (code p.n), carried-few p q board level s.dealer-below s.most-boards lq)
 
       pub front-nodes : Nodes p level (take (count - 0) after)
-      front-nodes = subst (Nodes p level) (sym front) carried-nodes
-
-      pub front-without : Without p level q (take (count - 0) after)
-      front-without = subst (Without p level q) (sym front) carried-without
+      front-nodes = nodes-of αs carried-labels l
 
       pub front-labels : labels_of p level (take (count - 0) after) ≡ αs
-      front-labels = ap (labels_of p level) front ∙ carried-labels-of
+      front-labels = names-of αs carried-labels l
+
+      pub front-without : Without p level q (take (count - 0) after)
+      front-without = all-of αs carried-labels l (λ α. occurs q α ≡ false) (λ α m. not_t (occurs q α) (carried-both α m).1)
+
+      -- A frame of board q can be stored there.
+      pub front-storable : q < p.n → (cells : List ℕ) → cell_count p.n ≤ length cells → Storable p level q (take (count - 0) after) cells
+      front-storable lq cells room = record { are-nodes = front-nodes; without = front-without; sender = lq; enough = room }

@@ -1,7 +1,7 @@
 -- A good record stands in a round of its plan.
 -- Assumes nothing.
 use Prim.Native.Nat.{ℕ, ◌≤◌, ◌<◌}
-use mathlib.Core.Path.{◌≡◌, refl, sym, subst}
+use mathlib.Core.Path.{◌≡◌, refl, sym, subst, ap, ◌∙◌}
 use mathlib.Core.Logic.{◌≢◌}
 use mathlib.Core.List.{List}
 use native.Mathlib.Omega.{arith}
@@ -56,5 +56,7 @@ good-stands r g holders t =
 pub open-stands : (b : Board) → (judge_open b).number ≡ 0 → InRound b.rec.plan b.rec.board b.rec.round b.cells
 open-stands b e = let o = open-facts b e in record { standing = good-stands b.rec o.good _ refl; enough = o.room }
 
-pub with-table : {p : Plan} {i : ℕ} {k : Round} (holders : List ℕ) → Standing p (holder_table (listed p)) i k → holders ≡ holder_table (listed p) → Standing p holders i k
-with-table {p} {i} {k} holders s t = subst (λ h. Standing p h i k) (sym t) s
+-- With the table that the plan, or one that is the same, came with.
+pub with-table : {p q : Plan} {holders : List ℕ} {i : ℕ} {k : Round} → Tabled q holders → q ≡ p → Standing p (holder_table (listed p)) i k → Standing q holders i k
+with-table {p} {q} {holders} {i} {k} t e s =
+    subst (λ x. Standing x holders i k) (sym e) (subst (λ h. Standing p h i k) (sym (t.table ∙ ap (λ x. holder_table (listed x)) e)) s)

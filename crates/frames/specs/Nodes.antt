@@ -40,19 +40,6 @@ pub record First (p : Plan) (cells : List ℕ) : Type 0 where
   pub dealer-below : p.dealer < p.n
   pub enough : cell_count p.n ≤ length cells
 
--- A round after the first, with cells enough.
-pub record Later (p : Plan) (holders : List ℕ) (board : ℕ) (k : Round) (cells : List ℕ) : Type 0 where
-  pub standing : Standing p holders board k
-  pub later : 2 ≤ k.0
-  pub enough : cell_count p.n ≤ length cells
-
--- The same, for what board q sends.
-pub record LaterFrom (p : Plan) (holders : List ℕ) (board q : ℕ) (k : Round) (cells : List ℕ) : Type 0 where
-  pub standing : Standing p holders board k
-  pub later : 2 ≤ k.0
-  pub sender : q < p.n
-  pub enough : cell_count p.n ≤ length cells
-
 -- The label that a node's number stands for: crate walk has a node's number in its level, its last board and its boards in one.
 abbrev pub node_at : Plan → ℕ → ℕ → Label
 node_at p level node = label_at p.n p.dealer level (node / 1024)

@@ -2,36 +2,30 @@
 ghost use Rattle.std.specs.Prelude.{◌≡◌, map, ◌++◌, ◌*◌, length, drop};
 ghost use Rattle.codec.specs.Codec.{current, value_size, encode};
 ghost use Rattle.protocol.specs.Nodes.{read, due};
-ghost use Rattle.frames.specs.Nodes.{Standing, labels_of, Writable};
+ghost use Rattle.frames.specs.Nodes.{labels_of, Writable};
 
+use crate::seat::Seat;
 use codec::value::{Value, put_value};
 use internal::node::index_of;
 use levels::levels::level_start;
 use plan::plan::Plan;
 use protocol::limits::VALUES;
-use schedule::rounds::Round;
 use walk::nodes::carried_nodes;
 
 // Is a frame due from board q to a board that keeps cells?
-pub fn is_due(plan: Plan, holders: &[u8], q: u8, board: u8, round: Round) -> bool
-    requires { Standing plan holders.now board round }
-    ensures { result ≡ due plan q board round }
+pub fn is_due(seat: &Seat, q: u8) -> bool
+    ensures { result ≡ due seat.now.tabled.plan q seat.now.board seat.now.round }
 {
-    let n = plan.n;
-    let dealer = plan.dealer;
-    let k = round.0;
-    if n <= q {
+    let plan = seat.tabled.plan;
+    let board = seat.board;
+    if plan.n <= q || q == board {
         return false;
     }
-    if q == board {
-        return false;
-    }
-    if k == 1 {
-        return q == dealer;
+    if seat.round.0 == 1 {
+        return q == plan.dealer;
     }
     let mut nodes = [0u32; VALUES];
-    let count = carried_nodes(plan, holders, board, q, k - 1, &mut nodes);
-    0 < count
+    0 < carried_nodes(&seat.tabled, board, q, seat.round.0 - 1, &mut nodes)
 }
 
 // The values of the nodes' cells are written.
@@ -40,11 +34,7 @@ pub fn write_at(plan: Plan, level: u8, nodes: &[u32], cells: &[Value], out: &mut
     ensures { out.new ≡ encode current (map (read plan cells.now) (labels_of plan level nodes.now)) ++ drop (value_size current * length nodes.now) out.old }
 {
     let start = level_start(plan.n, level);
-    let mut i: usize = 0;
-    while i < nodes.len() {
-        let index = index_of(nodes[i]);
-        let v = plan.value(cells[start + index]);
-        put_value(out, i, v);
-        i += 1;
+    for (i, &node) in nodes.iter().enumerate() {
+        put_value(out, i, plan.value(cells[start + index_of(node)]));
     }
 }

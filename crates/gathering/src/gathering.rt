@@ -1,17 +1,18 @@
 // What closing a round gathers: what was not handed in, the board's own cells, and the list by rule G.
-ghost use Rattle.std.specs.Prelude.{◌≡◌, cond, set};
+ghost use Rattle.std.specs.Prelude.{◌≡◌, ◌≤◌, cond, set, length};
 ghost use Rattle.sets.specs.Sets.{member};
 ghost use Rattle.plan.specs.Values.{default};
-ghost use Rattle.frames.specs.Nodes.{AnyRound, First, Later};
+ghost use Rattle.tree.specs.Places.{cell_count};
+ghost use Rattle.frames.specs.Nodes.{First};
 ghost use Rattle.gathering.specs.Gathered.{Gathers};
 
 use codec::value::Value;
 use copying::copying::copy_own;
 use detection::detecting::detect_cells;
 use filling::filling::fill_missing;
+use frames::seat::Seat;
 use plan::plan::Plan;
 use protocol::records::Slot;
-use schedule::rounds::{Round, Run};
 use sets::boards::member;
 
 // Round 1: the default at the root, unless the dealer's frame was taken.
@@ -19,50 +20,21 @@ fn gather_word(plan: Plan, marks: u8, cells: &mut [Value])
     requires { First plan cells.old }
     ensures { cells.new ≡ cond (member plan.dealer marks) cells.old (set cells.old 0 (default plan)) }
 {
-    let dealer = plan.dealer;
-    if member(marks, dealer) {
-        return;
+    if !member(marks, plan.dealer) {
+        cells[0] = plan.default();
     }
-    cells[0] = plan.default();
 }
 
-// Later rounds: what was not handed in, the board's own cells, and rule G; the list.
-fn gather_later(
-    plan: Plan,
-    holders: &[u8],
-    board: u8,
-    run: Run,
-    round: Round,
-    marks: u8,
-    list: [Slot; 7],
-    cells: &mut [Value],
-) -> [Slot; 7]
-    requires { Later plan holders.now board round cells.old }
-    ensures { Gathers plan board run round marks list result cells.old cells.new }
+// What a round gathers; the list. In later rounds: what was not handed in, the board's own cells, and rule G.
+pub fn gather_round(seat: &Seat, marks: u8, list: [Slot; 7], cells: &mut [Value]) -> [Slot; 7]
+    requires { cell_count seat.now.tabled.plan.n ≤ length cells.old }
+    ensures { Gathers seat.now.tabled.plan seat.now.board seat.now.run seat.now.round marks list result cells.old cells.new }
 {
-    fill_missing(plan, holders, board, round, marks, cells);
-    copy_own(plan, holders, board, round, cells);
-    detect_cells(plan, holders, board, run, round, list, cells)
-}
-
-// What a round gathers; the list.
-pub fn gather_round(
-    plan: Plan,
-    holders: &[u8],
-    board: u8,
-    run: Run,
-    round: Round,
-    marks: u8,
-    list: [Slot; 7],
-    cells: &mut [Value],
-) -> [Slot; 7]
-    requires { AnyRound plan holders.now board round cells.old }
-    ensures { Gathers plan board run round marks list result cells.old cells.new }
-{
-    let k = round.0;
-    if k == 1 {
-        gather_word(plan, marks, cells);
+    if seat.round.0 == 1 {
+        gather_word(seat.tabled.plan, marks, cells);
         return list;
     }
-    gather_later(plan, holders, board, run, round, marks, list, cells)
+    fill_missing(seat, marks, cells);
+    copy_own(seat, cells);
+    detect_cells(seat, list, cells)
 }

@@ -1,4 +1,5 @@
 // A node as one number: its number in its level, its last board, and its boards.
+// The parts are taken by `as`: a u32 has no `From` to usize or u8, and `try_from` would say that they may not fit.
 ghost use Rattle.std.specs.Prelude.{◌≡◌, ◌/◌, ◌%◌, ◌<◌};
 ghost use Rattle.internal.specs.Numbers.{pack};
 
@@ -28,5 +29,5 @@ pub fn node_of(index: u32, last: u8, boards: u8) -> u32
     requires { index < 2097152 }
     ensures { result ≡ pack index last boards }
 {
-    (index * 8 + last as u32) * 128 + boards as u32
+    (index * 8 + u32::from(last)) * 128 + u32::from(boards)
 }

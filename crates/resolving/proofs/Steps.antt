@@ -12,24 +12,24 @@ use native.Mathlib.Omega.{arith}
 use lib.Bits.{bit_or}
 use lib.Dec.{ltb}
 use lib.ListN.{length, get_or, set, replicate}
-use mir.Syntax.{w8, w64}
+use mir.Syntax.{w64}
 use mir.Val.{Fits}
 use borrow.Author.Tests.{ltb-true, ltb-false, lt-ltb, le-ltb}
 use Rattle.codec.specs.Codec.{current, blank}
 use Rattle.sets.specs.Sets.{member, insert}
 use Rattle.sets.proofs.Tests.{cases}
 use Rattle.plan.specs.declared.plan.Plan.{Plan}
-use Rattle.tables.specs.Tabled.{Tabled}
 use Rattle.plan.specs.Values.{default, value}
 use Rattle.schedule.specs.Schedule.{rounds}
 use Rattle.tree.specs.Labels.{Label, occurs, mask, labels}
 use Rattle.tree.specs.Places.{level_size, level_start, cell_count, place, child_index, size_within}
 use Rattle.tree.specs.Cells.{cell_at, store}
 use Rattle.tree.proofs.Boards.{outside-zero, outside-le, outside-more, outside-skip}
-use Rattle.tree.proofs.Descent.{insert-byte, root-at, root-byte}
+use Rattle.sets.proofs.Collect.{insert-byte}
+use Rattle.tree.proofs.Descent.{root-at, root-byte}
 use Rattle.tree.proofs.Labels.{label-length, label-below}
 use Rattle.tree.proofs.Masks.{mask-member, mask_lt}
-use Rattle.tree.proofs.NodePlaces.{at_mem, at_level, at_place, at_lt, child-absent, child-inside, child-label}
+use Rattle.tree.proofs.NodePlaces.{at_mem, at_place, at_lt, child-absent, child-inside, child-label}
 use Rattle.tree.proofs.Sizes.{start-suc, size-most, cells-most}
 use Rattle.tree.proofs.Within.{size-within, start-within, start-next, start-most}
 use Rattle.protocol.specs.Nodes.{read, internal}
@@ -46,10 +46,6 @@ use Rattle.resolving.specs.Promises.{Convertible, AtNode, Settles, Roots, node}
 use Rattle.resolving.proofs.Under.{here, Labelled}
 use Rattle.resolving.proofs.Settled.{settled-leaf, settled-inner, below-zero, below_more, below-skip, below_length, below-resolve}
 use Rattle.resolving.proofs.Resolved.{resolve-leaf, resolve-inner, root_none, root-some}
-
--- One board after the other.
-pub boards-left : (n c : ℕ) → c < n → n - (c + 1) < n - c
-boards-left n c l = omega arith
 
 -- What is asked of the cells is their number.
 pub same-room : {p : Plan} {holders : List ℕ} {i : ℕ} {a b : List ℕ} → Convertible p holders i a → length b ≡ length a → Convertible p holders i b
@@ -68,9 +64,6 @@ same-room k e = record {
   room = omega (arith, k.room);
 }
 
-pub tabled : {p : Plan} {holders : List ℕ} {i : ℕ} {cells : List ℕ} → Convertible p holders i cells → Tabled p holders
-tabled k = record { most-boards = k.most-boards; few-sets = k.few-sets; table = k.table }
-
 -- The children by boards below c are resolved: what they are worth, the cells, and the number of the next child.
 pub record Filling (p : Plan) (i level index s left c child : ℕ) (values before cells : List ℕ) : Type 0 where
   pub inside : c ≤ p.n
@@ -85,9 +78,6 @@ module _ {p : Plan} {holders : List ℕ} {i : ℕ} {before : List ℕ} (k : Conv
 
   mem : Memᴰ α (labels p.n p.dealer level)
   mem = at_mem p.n p.dealer level index k.dealer-below st.inside
-
-  pub level-most : level ≤ p.n
-  level-most = at_level p.n p.dealer level index k.dealer-below st.inside
 
   level-is : length (node p level index) ≡ level
   level-is = label-length p.n p.dealer level α mem
@@ -131,9 +121,6 @@ module _ {p : Plan} {holders : List ℕ} {i : ℕ} {before : List ℕ} (k : Conv
   pub next_fits : (size : ℕ) → size ≡ size_within p.n level → Fits w64 (start + size)
   next_fits size e = record { fits = omega (arith, next_small size e) }
 
-  pub width_fits : Fits w64 (p.n - level)
-  width_fits = record { fits = omega (arith, k.most-boards) }
-
   first_small : index * (p.n - level) ≤ 5040
   first_small =
       let x : index ≤ 720 = omega (arith, st.inside, size-most p.n level k.most-boards) in
@@ -142,19 +129,6 @@ module _ {p : Plan} {holders : List ℕ} {i : ℕ} {before : List ℕ} (k : Conv
 
   pub first_fits : Fits w64 (index * (p.n - level))
   first_fits = record { fits = omega (arith, first_small) }
-
-  pub level-fits : Fits w8 (level + 1)
-  level-fits = record { fits = omega (arith, level-most, k.most-boards) }
-
-  -- The levels left fall, and boards are few.
-  pub left-falls : {t : ℕ} → left ≡ t → left ≢ 0 → left - 1 < t
-  left-falls e ne = omega arith
-
-  pub board-few : (c : ℕ) → c < p.n → c < 8
-  board-few c l = omega (arith, k.most-boards)
-
-  pub board-fits : (c : ℕ) → c < p.n → Fits w8 (c + 1)
-  board-fits c l = record { fits = omega (arith, k.most-boards) }
 
   -- A leaf.
   leaf-value : value p (get_or before (start + index) 0) ≡ read p before (node p level index)

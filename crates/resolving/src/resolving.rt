@@ -6,12 +6,12 @@ use leaves::leaf::{is_leaf, settle_leaf};
 use levels::levels::level_size;
 use plan::plan::Plan;
 use sets::boards::member;
+use tables::asking::TabledPlan;
 use voting::voting::vote;
 
 // Resolves a node, with `left` levels below it; the mark for none.
 fn resolve_node(
-    plan: Plan,
-    holders: &[u8],
+    tabled: &TabledPlan,
     board: u8,
     level: u8,
     start: usize,
@@ -20,23 +20,20 @@ fn resolve_node(
     left: u8,
     cells: &mut [Value],
 ) -> Value
-    requires { Resolvable plan holders.now board level start index boards left cells.old }
-    ensures { Settles plan board left (node plan level index) result cells.old cells.new }
+    requires { Resolvable tabled.now.plan tabled.now.holders board level start index boards left cells.old }
+    ensures { Settles tabled.now.plan board left (node tabled.now.plan level index) result cells.old cells.new }
 {
     let at = start + index;
-    if is_leaf(plan, holders, board, boards, left) {
-        return settle_leaf(plan, at, cells);
+    if is_leaf(tabled, board, boards, left) {
+        return settle_leaf(tabled.plan, at, cells);
     }
-    let n = plan.n;
-    let next = start + level_size(n, level);
+    let next = start + level_size(tabled.plan.n, level);
     let mut values = [Plan::BLANK; 8];
-    let mut child = index * (n - level) as usize;
-    let mut c: u8 = 0;
-    while c < n {
+    let mut child = index * (tabled.plan.n - level) as usize;
+    for c in 0..tabled.plan.n {
         if !member(boards, c) {
             values[c as usize] = resolve_node(
-                plan,
-                holders,
+                tabled,
                 board,
                 level + 1,
                 next,
@@ -47,22 +44,30 @@ fn resolve_node(
             );
             child += 1;
         }
-        c += 1;
     }
-    let v = vote(plan, holders, boards, values);
+    let v = vote(tabled, boards, values);
     cells[at] = v;
     v
 }
 
 // Resolves the root, where `top` is the last round: a value.
-pub fn resolve_root(plan: Plan, holders: &[u8], board: u8, top: u8, cells: &mut [Value]) -> Value
-    requires { WholeTree plan holders.now board top cells.old }
-    ensures { Roots plan board result cells.old cells.new }
+pub fn resolve_root(tabled: &TabledPlan, board: u8, top: u8, cells: &mut [Value]) -> Value
+    requires { WholeTree tabled.now.plan tabled.now.holders board top cells.old }
+    ensures { Roots tabled.now.plan board result cells.old cells.new }
 {
-    let dealer = plan.dealer;
-    let v = resolve_node(plan, holders, board, 1, 0, 0, 1 << dealer, top - 1, cells);
+    let v = resolve_node(
+        tabled,
+        board,
+        1,
+        0,
+        0,
+        1 << tabled.plan.dealer,
+        top - 1,
+        cells,
+    );
     if v == Plan::BLANK {
-        return plan.default();
+        tabled.plan.default()
+    } else {
+        v
     }
-    v
 }

@@ -10,7 +10,7 @@ use native.Mathlib.Numerals.{add-one, sub-one}
 use native.Mathlib.Omega.{arith}
 use lib.ListN.{length, get_or, take, drop, length-map, get_or-map, drop_of_length-le}
 use lib.Seq.{drop-cons, take_at}
-use mir.Syntax.{w8, w64}
+use mir.Syntax.{w64}
 use mir.Val.{Fits}
 use Rattle.sets.specs.Sets.{member}
 use Rattle.plan.specs.declared.plan.Plan.{Plan}
@@ -34,7 +34,7 @@ use Rattle.protocol.specs.declared.records.Rule.TheVariants as Rule
 use Rattle.protocol.specs.declared.records.Slot.{Slot}
 use Rattle.protocol.specs.Listing.{join, as_set}
 use Rattle.protocol.proofs.Nodes.{inner-inv, node-label}
-use Rattle.voting.specs.Worth.{child_table}
+use Rattle.voting.specs.Worth.{child_table, Beside}
 use Rattle.voting.specs.Tables.{explained_by}
 use Rattle.voting.proofs.Table.{table_same}
 use Rattle.walk.specs.Listing.{Walkable, Lists}
@@ -43,7 +43,6 @@ use Rattle.walk.proofs.Carried.{inner-coded, inner-few}
 use Rattle.internal.proofs.Codes.{Coded}
 use Rattle.walk.proofs.Reading.{lists_length}
 use Rattle.resolving.specs.Promises.{Convertible}
-use Rattle.children.specs.Standing.{Beside}
 use Rattle.rule_c.specs.Promises.{Listed}
 use Rattle.rule_c.specs.Reading.{standing, passes_by, detect_by, levels_by}
 use Rattle.children.specs.Standing.{standing_from, passes_at}
@@ -53,12 +52,6 @@ module _ {p : Plan} {holders : List ℕ} {i : ℕ} {cells : List ℕ} (k : Conve
     {level : ℕ} {nodes : List ℕ} (list : Listed p i level nodes) where
   abbrev αs : List Label
   αs = inner p i level
-
-  pub level-fits : Fits w8 (level + 1)
-  level-fits = record { fits = omega (arith, list.high, k.most-rounds, k.most-boards) }
-
-  pub level-most : level ≤ p.n
-  level-most = omega (arith, list.high, k.most-rounds)
 
   list_length : length nodes ≡ length (inner p i level)
   list_length = ap length list.all ∙ length-map αs (code p.n)
@@ -89,9 +82,6 @@ module _ {p : Plan} {holders : List ℕ} {i : ℕ} {cells : List ℕ} (k : Conve
         omega (arith, visited.index, rank_lt p.n p.dealer level α k.dealer-below mem, size-most p.n level k.most-boards) in
         let b : p.n - level ≤ 7 = omega (arith, k.most-boards) in
         omega (arith, mul-le-mul a b)
-
-    pub index-fits : (ix : ℕ) → ix ≡ get_or nodes j 0 / 1024 → Fits w64 (ix * (p.n - level))
-    index-fits ix f = record { fits = omega (arith, index-small ix f) }
 
     -- Its children's cells.
     module _ {start ix : ℕ} (e : start ≡ start_within p.n (level + 1)) (f : ix ≡ get_or nodes j 0 / 1024) where
@@ -189,13 +179,13 @@ module _ {p : Plan} {holders : List ℕ} {i : ℕ} {cells : List ℕ} (k : Conve
     pub front_fits : length before ≡ 720 → r ≤ length after
     front_fits e = omega (arith, l.counted, lists_length l (omega (arith, few)), few)
 
-    pub front-listed : Listed p i level (take (r - 0) after)
+    pub front-listed : Listed p i level (take r after)
     front-listed =
-        let z : r - 0 ≡ length (map (code p.n) (inner p i level)) = omega (arith, l.counted, length-map (inner p i level) (code p.n)) in
+        let z : r ≡ length (map (code p.n) (inner p i level)) = omega (arith, l.counted, length-map (inner p i level) (code p.n)) in
         record {
           low = low;
           high = high;
-          all = ap (take (r - 0)) l.content ∙ take_at (map (code p.n) (inner p i level)) (drop r before) (r - 0) (sym z);
+          all = ap (take r) l.content ∙ take_at (map (code p.n) (inner p i level)) (drop r before) r (sym z);
         }
 
 -- From level to level.

@@ -11,16 +11,15 @@ use codec::value::Value;
 use internal::node::{index_of, last_of};
 use levels::levels::level_start;
 use listing::listing::join;
-use plan::plan::Plan;
 use protocol::limits::NODES;
 use protocol::records::{Rule, Slot};
 use schedule::rounds::{Round, Run};
+use tables::asking::TabledPlan;
 use walk::nodes::inner_nodes;
 
-// The rule over the internal nodes of a level, in cell order; the list.
+// The rule over the internal nodes of a level, in cell order; the list. Apart from rule G's loop, whose cells change from node to node.
 fn detect_nodes(
-    plan: Plan,
-    holders: &[u8],
+    tabled: &TabledPlan,
     board: u8,
     run: Run,
     round: Round,
@@ -29,28 +28,25 @@ fn detect_nodes(
     list: [Slot; 7],
     cells: &[Value],
 ) -> [Slot; 7]
-    requires { AtNodes plan holders.now board level nodes.now cells.now }
-    ensures { result ≡ detect_by plan run round cells.now (inner plan board level) list }
+    requires { AtNodes tabled.now.plan tabled.now.holders board level nodes.now cells.now }
+    ensures { result ≡ detect_by tabled.now.plan run round cells.now (inner tabled.now.plan board level) list }
 {
-    let start = level_start(plan.n, level + 1);
-    let width = (plan.n - level) as usize;
+    let start = level_start(tabled.plan.n, level + 1);
+    let width = (tabled.plan.n - level) as usize;
     let mut grown = list;
-    let mut i = 0;
-    while i < nodes.len() {
-        let node = nodes[i];
+    for &node in nodes {
         let from = start + index_of(node) * width;
-        if !passes_at(plan, holders, from, node, grown, cells) {
+        if !passes_at(tabled, from, node, grown, cells) {
+            // By a name of its own: the check lays no call's result in an array that stands.
             let joined = join(last_of(node), run, round, Rule::C(level), grown);
             grown = joined;
         }
-        i += 1;
     }
     grown
 }
 
 fn detect_level(
-    plan: Plan,
-    holders: &[u8],
+    tabled: &TabledPlan,
     board: u8,
     run: Run,
     round: Round,
@@ -58,19 +54,18 @@ fn detect_level(
     list: [Slot; 7],
     cells: &[Value],
 ) -> [Slot; 7]
-    requires { AtLevel plan holders.now board level cells.now }
-    ensures { result ≡ detect_by plan run round cells.now (inner plan board level) list }
+    requires { AtLevel tabled.now.plan tabled.now.holders board level cells.now }
+    ensures { result ≡ detect_by tabled.now.plan run round cells.now (inner tabled.now.plan board level) list }
 {
     let mut nodes = [0u32; NODES];
-    let count = inner_nodes(plan, holders, board, level, &mut nodes);
+    let count = inner_nodes(tabled, board, level, &mut nodes);
     detect_nodes(
-        plan,
-        holders,
+        tabled,
         board,
         run,
         round,
         level,
-        &nodes[0..count],
+        &nodes[..count],
         list,
         cells,
     )
@@ -78,8 +73,7 @@ fn detect_level(
 
 // The rule over levels `top` - 1 down to 1, where `top` is the last round; the list.
 pub fn detect_levels(
-    plan: Plan,
-    holders: &[u8],
+    tabled: &TabledPlan,
     board: u8,
     run: Run,
     round: Round,
@@ -87,15 +81,13 @@ pub fn detect_levels(
     list: [Slot; 7],
     cells: &[Value],
 ) -> [Slot; 7]
-    requires { WholeTree plan holders.now board top cells.now }
-    ensures { result ≡ levels_by plan board run round cells.now ((rounds plan).0 - 1) list }
+    requires { WholeTree tabled.now.plan tabled.now.holders board top cells.now }
+    ensures { result ≡ levels_by tabled.now.plan board run round cells.now ((rounds tabled.now.plan).0 - 1) list }
 {
     let mut grown = list;
-    let mut level = top - 1;
-    while 0 < level {
-        let next = detect_level(plan, holders, board, run, round, level, grown, cells);
+    for level in (1..top).rev() {
+        let next = detect_level(tabled, board, run, round, level, grown, cells);
         grown = next;
-        level -= 1;
     }
     grown
 }

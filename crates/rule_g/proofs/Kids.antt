@@ -6,13 +6,12 @@ use mathlib.Core.Bool.{true, false}
 use mathlib.Core.List.{List, ◌∷◌, Memᴰ}
 use mathlib.Core.Option.{some}
 use native.Mathlib.Omega.{arith}
-use lib.ListN.{length, get_or, set}
+use lib.ListN.{length, get_or}
 use Rattle.codec.specs.Codec.{current, blank}
 use Rattle.sets.specs.Sets.{member}
 use Rattle.sets.specs.Structure.{tolerated}
 use Rattle.plan.specs.declared.plan.Plan.{Plan}
 use Rattle.plan.specs.Listed.{listed}
-use Rattle.plan.specs.Values.{value}
 use Rattle.schedule.specs.declared.rounds.Round.{Round}
 use Rattle.tree.specs.Labels.{Label, occurs, mask, labels}
 use Rattle.tree.specs.Places.{outside_below, child_index, start_within, place, cell_count}
@@ -24,20 +23,14 @@ use Rattle.protocol.specs.declared.records.Slot.{Slot}
 use Rattle.protocol.specs.Listing.{as_set}
 use Rattle.protocol.specs.Detection.{explained, by_cell}
 use Rattle.protocol.proofs.Bounds.{last-below}
-use Rattle.voting.specs.Worth.{worth, child_table}
+use Rattle.voting.specs.Worth.{child_table, Beside}
 use Rattle.voting.specs.Tables.{explained_by}
-use Rattle.voting.proofs.Table.{table_more, table_same}
+use Rattle.voting.proofs.Table.{table_same}
 use Rattle.voting.proofs.Laws.{explained-table}
 use Rattle.frames.specs.Nodes.{Standing, Nodes, node_at}
 use Rattle.frames.proofs.Places.{child-sum, child-lt, read-place}
 use Rattle.frames.proofs.Standing.{tabled}
-use Rattle.rule_g.specs.Visits.{kid, Kids, Visit}
-
--- One more child.
-pub kid-more : (p : Plan) (s from : ℕ) (cells values : List ℕ) (c at v : ℕ) → member c s ≡ false → at ≡ from + outside_below s c
-    → v ≡ value p (get_or cells at 0) → values ≡ child_table (kid p s from cells) s c → set values c v ≡ child_table (kid p s from cells) s (c + 1)
-unfolding kid worth
-kid-more p s from cells values c at v e x y z = rw (y, x, z) (sym (table_more (kid p s from cells) s c e))
+use Rattle.rule_g.specs.Visits.{kid, Visit}
 
 module _ {p : Plan} {holders : List ℕ} {level node start : ℕ} {cells : List ℕ} (v : Visit p holders level node start cells) where
   abbrev α : Label
@@ -65,8 +58,8 @@ module _ {p : Plan} {holders : List ℕ} {level node start : ℕ} {cells : List 
     unfolding kid by_cell
     kid-read = ap some (read-place p cells (c ∷ α) (from + outside_below (node % 128) c) kid-place)
 
-  pub kids-there : Kids p (node % 128) from cells
-  kids-there = record { most-boards = v.tabled.most-boards; there = kid-there }
+  pub kids-there : Beside p.n (node % 128) from cells
+  kids-there = record { few = omega (arith, v.tabled.most-boards); there = kid-there }
 
   -- The table is that of the children's cells.
   pub kids-table : child_table (kid p (node % 128) from cells) (node % 128) p.n ≡ child_table (by_cell p cells α) (mask α) p.n

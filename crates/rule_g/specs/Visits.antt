@@ -1,9 +1,8 @@
 -- What rule G asks at a node, and what its children are worth by their cells. A middle layer: `by_cell` of protocol/Detection is the
 -- definition.
-use Rattle.std.specs.Prelude.{ℕ, ◌+◌, ◌-◌, ◌≤◌, ◌<◌, ◌≡◌, true, false, List, length, get_or}
+use Rattle.std.specs.Prelude.{ℕ, ◌+◌, ◌≤◌, ◌<◌, ◌≡◌, true, List, length, get_or}
 use Rattle.std.proofs.Math.Option.{Option, some}
 use Rattle.codec.specs.Codec.{current, blank}
-use Rattle.sets.specs.Sets.{member}
 use Rattle.sets.specs.Structure.{tolerated}
 use Rattle.plan.specs.declared.plan.Plan.{Plan}
 use Rattle.plan.specs.Listed.{listed}
@@ -12,17 +11,11 @@ use Rattle.plan.specs.Calls.{judged}
 use Rattle.tables.specs.Tabled.{Tabled}
 use Rattle.tree.specs.Labels.{mask}
 use Rattle.tree.specs.Places.{cell_count, outside_below, start_within}
-use Rattle.schedule.specs.declared.rounds.Round.{Round}
-use Rattle.frames.specs.Nodes.{Standing, node_at, IsNode}
+use Rattle.frames.specs.Nodes.{node_at, IsNode}
 
 -- The children of a node with the boards s have their cells side by side, the first at `from`.
 unfoldable pub kid : Plan → ℕ → ℕ → List ℕ → ℕ → Option ℕ
 kid p s from cells c = some (value p (get_or cells (from + outside_below s c) 0))
-
--- They are there, at most seven.
-pub record Kids (p : Plan) (s from : ℕ) (cells : List ℕ) : Type 0 where
-  pub most-boards : p.n ≤ 7
-  pub there : (c : ℕ) → c < p.n → member c s ≡ false → from + outside_below s c < length cells
 
 -- A level above the last, and where the next level starts.
 pub record Above (n level start : ℕ) : Type 0 where
@@ -41,9 +34,3 @@ pub record Visit (p : Plan) (holders : List ℕ) (level node start : ℕ) (cells
   pub held : tolerated (listed p) (mask (node_at p level node)) ≡ true
   pub starts : start ≡ start_within p.n (level + 1)
   pub enough : cell_count p.n ≤ length cells
-
--- The same in a round of a board after the first.
-pub record Detects (p : Plan) (holders : List ℕ) (board : ℕ) (k : Round) (node start : ℕ) (cells : List ℕ) : Type 0 where
-  pub standing : Standing p holders board k
-  pub later : 2 ≤ k.0
-  pub visit : Visit p holders (k.0 - 1) node start cells

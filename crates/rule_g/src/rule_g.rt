@@ -1,89 +1,75 @@
 // Rule G at a node: what the children's cells say of its last board.
-ghost use Rattle.std.specs.Prelude.{◌≡◌, ◌+◌, ◌-◌, ◌*◌, ◌/◌};
+ghost use Rattle.std.specs.Prelude.{◌≡◌, ◌≤◌, ◌+◌, ◌-◌, ◌*◌, ◌/◌};
 ghost use Rattle.protocol.specs.Detection.{by_cell, passes, detect_g};
-ghost use Rattle.voting.specs.Worth.{child_table};
 ghost use Rattle.frames.specs.Nodes.{node_at};
-ghost use Rattle.rule_g.specs.Visits.{kid, Kids, Above, Visit, Detects};
+ghost use Rattle.rule_g.specs.Visits.{Above, Visit};
 
 use codec::value::Value;
 use explaining::explained::explained_by;
 use filling::filling::silence;
+use frames::seat::Seat;
 use internal::node::{boards_of, index_of, last_of};
 use listing::listing::{as_set, join};
-use plan::plan::Plan;
 use protocol::records::{Rule, Slot};
-use schedule::rounds::{Round, Run};
 use sets::boards::member;
-
-// What the children of a node with these boards are worth by their cells, the first of which stands at `from`.
-fn child_values(plan: Plan, boards: u8, from: usize, cells: &[Value]) -> [Value; 8]
-    requires { Kids plan boards from cells.now }
-    ensures { result ≡ child_table (kid plan boards from cells.now) boards plan.n }
-{
-    let n = plan.n;
-    let mut values = [Plan::BLANK; 8];
-    let mut at = from;
-    let mut c: u8 = 0;
-    while c < n {
-        if !member(boards, c) {
-            values[c as usize] = plan.value(cells[at]);
-            at += 1;
-        }
-        c += 1;
-    }
-    values
-}
+use tables::asking::TabledPlan;
+use voting::worth::child_table;
 
 // Where the first child of a node stands; `start` is where its level starts.
 fn first_child(n: u8, level: u8, node: u32, start: usize) -> usize
     requires { Above n level start }
     ensures { result ≡ start + node / 1024 * (n - level) }
 {
-    let width = (n - level) as usize;
-    start + index_of(node) * width
+    start + index_of(node) * (n - level) as usize
 }
 
 // Does rule G leave the list as it is at a node?
+#[tactic(auto, unfolding(protocol::specs::Detection::passes))]
 fn passes(
-    plan: Plan,
-    holders: &[u8],
+    tabled: &TabledPlan,
     level: u8,
     node: u32,
     start: usize,
     list: [Slot; 7],
     cells: &[Value],
 ) -> bool
-    requires { Visit plan holders.now level node start cells.now }
-    ensures { result ≡ passes plan (node_at plan level node) (by_cell plan cells.now (node_at plan level node)) list }
+    requires { Visit tabled.now.plan tabled.now.holders level node start cells.now }
+    ensures { result ≡ passes tabled.now.plan (node_at tabled.now.plan level node) (by_cell tabled.now.plan cells.now (node_at tabled.now.plan level node)) list }
 {
     let set = as_set(list);
-    if member(set, last_of(node)) {
-        return true;
-    }
     let boards = boards_of(node);
-    let values = child_values(plan, boards, first_child(plan.n, level, node, start), cells);
-    explained_by(plan, holders, boards, values, set)
+    member(set, last_of(node))
+        || explained_by(
+            tabled,
+            boards,
+            child_table(
+                tabled.plan.n,
+                boards,
+                first_child(tabled.plan.n, level, node, start),
+                cells,
+                |x| tabled.plan.value(x),
+            ),
+            set,
+        )
 }
 
 // Rule G at a node; the list.
 pub fn detect_at(
-    plan: Plan,
-    holders: &[u8],
-    board: u8,
-    run: Run,
-    round: Round,
+    seat: &Seat,
     node: u32,
     start: usize,
     list: [Slot; 7],
     cells: &mut [Value],
 ) -> [Slot; 7]
-    requires { Detects plan holders.now board round node start cells.old }
-    ensures { record { list = result; cells = cells.new } ≡ detect_g plan board run round (node_at plan (round.0 - 1) node) (record { list = list; cells = cells.old }) }
+    requires later { 2 ≤ seat.now.round.0 }
+    requires visit { Visit seat.now.tabled.plan seat.now.tabled.holders (seat.now.round.0 - 1) node start cells.old }
+    ensures { record { list = result; cells = cells.new } ≡ detect_g seat.now.tabled.plan seat.now.board seat.now.run seat.now.round (node_at seat.now.tabled.plan (seat.now.round.0 - 1) node) (record { list = list; cells = cells.old }) }
 {
-    if passes(plan, holders, round.0 - 1, node, start, list, cells) {
+    let level = seat.round.0 - 1;
+    if passes(&seat.tabled, level, node, start, list, cells) {
         return list;
     }
     let end = last_of(node);
-    silence(plan, holders, board, end, round, cells);
-    join(end, run, round, Rule::G(round.0 - 1), list)
+    silence(seat, end, cells);
+    join(end, seat.run, seat.round, Rule::G(level), list)
 }

@@ -14,13 +14,15 @@ use sets::boards::member;
 use tree::nodes::child_index;
 
 // Value number i of a frame; the default where it has none.
+#[tactic(auto, unfolding(frames::specs::Nodes::entry))]
 fn entry_at(plan: Plan, frame: &[u8], i: usize) -> Value
     ensures { result ≡ entry plan (decode current frame.now) i }
 {
     if i < value_count(frame) {
-        return plan.value(value_at(frame, i));
+        plan.value(value_at(frame, i))
+    } else {
+        plan.default()
     }
-    plan.default()
 }
 
 // A frame's values are stored at the nodes' children by board q; where values are lacking, the default.
@@ -28,14 +30,11 @@ pub fn store_at(plan: Plan, level: u8, q: u8, nodes: &[u32], frame: &[u8], cells
     requires { Storable plan level q nodes.now cells.old }
     ensures { cells.new ≡ fill plan q (labels_of plan level nodes.now) (decode current frame.now) cells.old }
 {
-    let n = plan.n;
-    let start = level_start(n, level + 1);
-    let mut i: usize = 0;
-    while i < nodes.len() {
-        let node = nodes[i];
-        let child = child_index(n, level, index_of(node) as u16, boards_of(node), q);
+    let start = level_start(plan.n, level + 1);
+    for (i, &node) in nodes.iter().enumerate() {
+        // By `as`: a node's number is below 720, and `From` has no conversion of a usize to a u16.
+        let child = child_index(plan.n, level, index_of(node) as u16, boards_of(node), q);
         cells[start + child] = entry_at(plan, frame, i);
-        i += 1;
     }
 }
 
@@ -52,9 +51,10 @@ pub fn store_frame(
     requires { Storable plan level q nodes.now cells.old }
     ensures { cells.new ≡ fill plan q (labels_of plan level nodes.now) (counted list q (labels_of plan level nodes.now) (decode current frame.now)) cells.old }
 {
-    let mut length: usize = 0;
-    if value_count(frame) == nodes.len() && !member(as_set(list), q) {
-        length = frame.len();
-    }
-    store_at(plan, level, q, nodes, &frame[0..length], cells);
+    let values = if value_count(frame) == nodes.len() && !member(as_set(list), q) {
+        frame
+    } else {
+        &[]
+    };
+    store_at(plan, level, q, nodes, values, cells);
 }

@@ -22,7 +22,7 @@ use Rattle.plan.specs.declared.plan.Plan.{Plan}
 use Rattle.plan.specs.Listed.{listed}
 use Rattle.voting.specs.Worth.{worth}
 use Rattle.voting.specs.Tables.{at, agreeing, elected, voted}
-use Rattle.tree.proofs.Collect.{set_of-none}
+use Rattle.sets.proofs.Collect.{set_of-none}
 
 module _ (f : ℕ → Bool) (k : ℕ) where
   only_none : ((v : ℕ) → v < k → f v ≡ false) → only f k ≡ none

@@ -1,23 +1,17 @@
 -- Resolving and both rules, read off the table of what a node's children are worth. The node has the boards s. A middle layer: `vote` and
 -- `explained` of crate protocol are the definitions.
-use Rattle.std.specs.Prelude.{ℕ, ◌<◌, Bool, not, ◌&&◌, ◌||◌, List, eqb, ltb, get_or}
+use Rattle.std.specs.Prelude.{ℕ, Bool, not, ◌&&◌, ◌||◌, List, eqb, ltb, get_or}
 use Rattle.sets.specs.Search.{any}
 use Rattle.sets.specs.Only.{only}
 use Rattle.sets.specs.Sets.{member, set_of}
 use Rattle.sets.specs.Structure.{tolerated}
 use Rattle.plan.specs.declared.plan.Plan.{Plan}
 use Rattle.plan.specs.Listed.{listed}
-use Rattle.tables.specs.Tabled.{Tabled}
 use Rattle.voting.specs.Worth.{worth}
 
 -- What child c is worth; a table has eight entries.
 abbrev pub at : List ℕ → ℕ → ℕ
 at values c = get_or values c 0
-
--- The plan's table of holders, and a child's board.
-pub record AtChild (p : Plan) (holders : List ℕ) (c : ℕ) : Type 0 where
-  pub tabled : Tabled p holders
-  pub below : c < p.n
 
 -- The children worth v.
 unfoldable pub agreeing : ℕ → ℕ → List ℕ → ℕ → ℕ

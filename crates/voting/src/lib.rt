@@ -2,3 +2,4 @@
 #![tactic(auto)]
 
 pub mod voting;
+pub mod worth;

@@ -9,7 +9,7 @@ use native.Mathlib.Omega.{arith}
 use native.Mathlib.Nat.{one-mul}
 use lib.Bits.{bit_and, bit_or, and_high, and_zero_r, or_lt}
 use lib.Dec.{eqb, ltb}
-use lib.ListN.{length, length-take}
+use lib.ListN.{length}
 use lib.Pow.{pow-lt, pow_pos, pow-add}
 use borrow.Author.Tests.{eq-eqb, ne_eqb, eqb-true, eqb-false, lt-ltb, ltb-false}
 use Rattle.sets.specs.Sets.{member, insert}
@@ -117,16 +117,12 @@ single-apart q s h =
     let out : eqb (s / 2 ^ q % 2) 1 ≡ false = unfold member in member-high 7 q s h (omega arith) in
     rw (e, out, and_zero_r s))
 
-module _ (p : Plan) (q i : ℕ) (holders : List ℕ) (table : holders ≡ holder_table (listed p)) (few : p.count ≤ 255) where
-  listed-few : length (listed p) ≤ 255
-  unfolding listed
-  listed-few = omega (arith, length-take p.count p.sets)
-
+module _ (p : Plan) (q i : ℕ) (holders : List ℕ) (table : holders ≡ holder_table (listed p)) (few : length (listed p) ≤ 255) where
   -- Above level R the test of the boards is that of the label.
   is_open_lem : (α : Label) → mask α < 128 → length α < (rounds p).0 → is_open holders (bit_or (single q) (barred p i)) (mask α) ≡ carries p q i α
   unfolding is_open is_internal
   is_open_lem α h l =
-      let held = table-tolerated (listed p) holders (mask α) table listed-few h in
+      let held = table-tolerated (listed p) holders (mask α) table few h in
       let out = single-apart q (mask α) h ∙ ap not (mask-member q α) in
       let apart : eqb (bit_and (mask α) (bit_or (single q) (barred p i))) 0 ≡ (not (occurs q α) && eqb (bit_and (mask α) (barred p i)) 0) =
       without-both p i (single q) (mask α) ∙ ap (λ b. b && eqb (bit_and (mask α) (barred p i)) 0) out in

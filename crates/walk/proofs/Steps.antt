@@ -11,10 +11,10 @@ use native.Mathlib.Omega.{arith}
 use lib.Bits.{bit_or, or_lt}
 use lib.ListN.{length, set, length-append}
 use lib.Pow.{pow-lt}
-use lib.Seq.{sets, length-sets}
+use lib.Seq.{sets}
 use Rattle.sets.specs.Sets.{member, insert}
 use Rattle.tree.proofs.Below.{most}
-use Rattle.tree.proofs.Descent.{insert-byte}
+use Rattle.sets.proofs.Collect.{insert-byte}
 use Rattle.internal.specs.Numbers.{pack}
 use Rattle.walk.specs.Walk.{kids, walked}
 use Rattle.walk.specs.Listing.{Written}
@@ -86,9 +86,7 @@ child-small s q l h = rw (insert-byte s q (omega arith)) (unfold insert in or_lt
 
 -- What is known where the walk goes on with the children from c on.
 pub record Walking (n base c next at used : ℕ) (left whole now before : List ℕ) : Type 0 where
-  pub inside : c ≤ n
   pub number : next ≤ base + c
-  pub size : length now ≡ length before
   pub count : at + length left ≡ used + length whole
   pub content : sets now at left ≡ sets before used whole
 
@@ -97,14 +95,13 @@ module _ (f : ℕ → ℕ → ℕ → List ℕ) (s n base used : ℕ) (whole bef
   abbrev At : ℕ → ℕ → ℕ → List ℕ → Type 0
   At c i at now = Walking n base c i at used (rest f s n i c) whole now before
 
-  pub walking_start : whole ≡ rest f s n base 0 → At 0 base used before
-  walking_start e = record {
-    inside = omega arith;
-    number = omega arith;
-    size = refl;
-    count = ap (λ l. used + length l) (sym e);
-    content = ap (sets before used) (sym e);
-  }
+  pub walking_start : (i : ℕ) → i ≡ base → whole ≡ rest f s n base 0 → At 0 i used before
+  walking_start i z e =
+      rw z (record {
+        number = omega arith;
+        count = ap (λ l. used + length l) (sym e);
+        content = ap (sets before used) (sym e);
+      })
 
   -- A board of the node has no child.
   pub walking_skip : (c i at i' at' : ℕ) (now now' : List ℕ) → At c i at now → c < n → member c s ≡ true → i' ≡ i → at' ≡ at → now' ≡ now
@@ -112,9 +109,7 @@ module _ (f : ℕ → ℕ → ℕ → List ℕ) (s n base used : ℕ) (whole bef
   walking_skip c i at i' at' now now' w l e ei ea en =
       let z = rest-skip f s n i c l e in
       rw (ei, ea, en) (record {
-        inside = omega arith;
         number = omega arith;
-        size = w.size;
         count = ap (λ l. at + length l) (sym z) ∙ w.count;
         content = ap (sets now at) (sym z) ∙ w.content;
       })
@@ -127,9 +122,7 @@ module _ (f : ℕ → ℕ → ℕ → List ℕ) (s n base used : ℕ) (whole bef
       let part = f i c (insert c s) in
       let more = rest f s n (i + 1) (c + 1) in
       rw ei (record {
-        inside = omega arith;
         number = omega arith;
-        size = ap length k.content ∙ length-sets now at part ∙ w.size;
         count = omega (arith, k.counted, w.count, ap length z, length-append part more);
         content =
             ap (λ l. sets l end more) k.content
@@ -140,11 +133,11 @@ module _ (f : ℕ → ℕ → ℕ → List ℕ) (s n base used : ℕ) (whole bef
       })
 
   -- The room for what is below the child.
-  pub walking-room : (c i at : ℕ) (now : List ℕ) → At c i at now → c < n → member c s ≡ false → used + length whole ≤ length before
+  pub walking-room : (c i at : ℕ) (now : List ℕ) → At c i at now → c < n → member c s ≡ false → length now ≡ length before → used + length whole ≤ length before
       → at + length (f i c (insert c s)) ≤ length now
-  walking-room c i at now w l e room =
+  walking-room c i at now w l e size room =
       let part = f i c (insert c s) in
-      omega (arith, w.size, w.count, ap length (rest-here f s n i c l e), length-append part (rest f s n (i + 1) (c + 1)))
+      omega (arith, size, w.count, ap length (rest-here f s n i c l e), length-append part (rest f s n (i + 1) (c + 1)))
 
   pub walking-end : (c i at : ℕ) (now : List ℕ) → At c i at now → n ≤ c → Written used at whole before now
   walking-end c i at now w l =

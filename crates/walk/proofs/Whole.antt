@@ -62,7 +62,7 @@ root p = 1 * 2 ^ p.dealer % 256
 abbrev walked_from : Plan → ℕ → ℕ → List ℕ → List ℕ
 walked_from p level w holders = walked (is_open holders w) p.n (p.n - level) (level - 1) 0 p.dealer (root p)
 
-module _ (p : Plan) (q i level w : ℕ) (holders nodes : List ℕ) (k : Walkable p level (carried p q i level) holders nodes) (few : p.count ≤ 255) (e : w ≡ bit_or (single q) (barred p i)) where
+module _ (p : Plan) (q i level w : ℕ) (holders nodes : List ℕ) (k : Walkable p level (carried p q i level) holders nodes) (few : length (listed p) ≤ 255) (e : w ≡ bit_or (single q) (barred p i)) where
   abbrev list : List ℕ
   list = walked_from p level w holders
 

@@ -7,17 +7,15 @@ ghost use Rattle.walk.specs.Listing.{Walking, Written, Walkable, Lists};
 
 use internal::internal::{barred_to, is_open};
 use internal::node::node_of;
-use plan::plan::Plan;
 use sets::boards::member;
+use tables::asking::TabledPlan;
 
 // The set of board q alone; empty if a byte has no such board.
+#[tactic(auto, using(std::proofs::lemmas::Nat::one_shl), unfolding(crate::specs::Walk::single))]
 fn set_of(q: u8) -> u8
     ensures { result ≡ single q }
 {
-    if q < 8 {
-        return 1 << q;
-    }
-    0
+    if q < 8 { 1 << q } else { 0 }
 }
 
 // Writes the nodes `left` levels below a node from place `used` on; the place after them.
@@ -44,10 +42,9 @@ fn walk(
         nodes[used] = node_of(index, last, boards);
         return used + 1;
     }
-    let mut next = index * (spare + left) as u32;
+    let mut next = index * u32::from(spare + left);
     let mut at = used;
-    let mut c: u8 = 0;
-    while c < n {
+    for c in 0..n {
         if !member(boards, c) {
             let below = boards | (1 << c);
             if is_open(holders, without, below) {
@@ -71,34 +68,25 @@ fn walk(
             }
             next += 1;
         }
-        c += 1;
     }
     at
 }
 
 // The nodes of a level that the frame of board q carries to a board, in cell order; their count.
-pub fn carried_nodes(
-    plan: Plan,
-    holders: &[u8],
-    board: u8,
-    q: u8,
-    level: u8,
-    nodes: &mut [u32],
-) -> usize
-    requires { Walkable plan level (carried plan q board level) holders.now nodes.old }
-    ensures { Lists plan result (carried plan q board level) nodes.old nodes.new }
+pub fn carried_nodes(tabled: &TabledPlan, board: u8, q: u8, level: u8, nodes: &mut [u32]) -> usize
+    requires { Walkable tabled.now.plan level (carried tabled.now.plan q board level) tabled.now.holders nodes.old }
+    ensures { Lists tabled.now.plan result (carried tabled.now.plan q board level) nodes.old nodes.new }
 {
-    let n = plan.n;
-    let dealer = plan.dealer;
+    let plan = tabled.plan;
     let without = set_of(q) | barred_to(plan, board);
     walk(
-        holders,
-        n,
-        n - level,
+        &tabled.holders,
+        plan.n,
+        plan.n - level,
         without,
         0,
-        dealer,
-        1 << dealer,
+        plan.dealer,
+        1 << plan.dealer,
         level - 1,
         0,
         nodes,
@@ -106,9 +94,9 @@ pub fn carried_nodes(
 }
 
 // The internal nodes of a level, in cell order; their count.
-pub fn inner_nodes(plan: Plan, holders: &[u8], board: u8, level: u8, nodes: &mut [u32]) -> usize
-    requires { Walkable plan level (inner plan board level) holders.now nodes.old }
-    ensures { Lists plan result (inner plan board level) nodes.old nodes.new }
+pub fn inner_nodes(tabled: &TabledPlan, board: u8, level: u8, nodes: &mut [u32]) -> usize
+    requires { Walkable tabled.now.plan level (inner tabled.now.plan board level) tabled.now.holders nodes.old }
+    ensures { Lists tabled.now.plan result (inner tabled.now.plan board level) nodes.old nodes.new }
 {
-    carried_nodes(plan, holders, board, 8, level, nodes)
+    carried_nodes(tabled, board, 8, level, nodes)
 }

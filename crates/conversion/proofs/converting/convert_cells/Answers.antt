@@ -5,11 +5,11 @@ use Rattle.conversion.proofs.converting.convert_cells.Goals as goal
 
 pub resolve_root-root-requires : goal.resolve_root-root-requires
 resolve_root-root-requires c =
-    record { convertible = c.requires; top-is = ap (λ r. r.0) c.rounds-last.ensures }
+    record { convertible = c.requires; top-is = ap (λ r. r.0) c.rounds-top.ensures }
 
 pub detect_levels-found-requires : goal.detect_levels-found-requires
 detect_levels-found-requires c =
-    record { convertible = resolved-room c.requires c.resolve_root-root.ensures; top-is = ap (λ r. r.0) c.rounds-last.ensures }
+    record { convertible = resolved-room c.requires c.resolve_root-root.ensures; top-is = ap (λ r. r.0) c.rounds-top.ensures }
 
 pub returns : goal.returns
 returns c =

@@ -1,6 +1,6 @@
 -- `detect_list` meets its contract: the rule over what is left of the list gives the same as over all of it.
 use Prim.Native.Nat.{◌+◌, ◌-◌, ◌≤◌}
-use mathlib.Core.Path.{◌≡◌, refl, sym, ap, ◌∙◌}
+use mathlib.Core.Path.{◌≡◌, sym, ap, ◌∙◌}
 use mathlib.Core.List.{[]}
 use native.Mathlib.Omega.{arith}
 use mir.Syntax.{w16}
@@ -14,48 +14,38 @@ use Rattle.rule_g.proofs.Kids.{visiting}
 use Rattle.detection.proofs.detecting.detect_list.Goals as goal
 use Rattle.detection.proofs.detecting.detect_list.Goals.{Start}
 
-pub loop-i-init : goal.loop-i-init
-loop-i-init c = (omega arith, refl, refl)
-
 pub detect_at-next-requires : goal.detect_at-next-requires
 detect_at-next-requires c =
     let e =
     (goal.at.detect_at-next-requires c).Start in
-    let h : Fits w16 e.args.plan.span = search rules in
-    let l = c.loop-i in
+    let h : Fits w16 e.args.seat.now.tabled.plan.span = search rules in
+    let l = c.loop-node in
     record {
-      standing = e.requires.standing;
       later = e.requires.later;
       visit =
-          visiting e.requires.standing (omega (arith, h.fits)) e.args.nodes.now e.requires.are-nodes e.requires.held l.i c.level_start-start.result l.cells (omega arith)
-          c.level_start-start.ensures (omega (arith, e.requires.enough, l.invariant.1));
+          visiting e.args.seat.now.standing (omega (arith, h.fits)) e.args.nodes.now e.requires.are-nodes e.requires.held l.node-index c.level_start-start.result l.cells (omega arith)
+          c.level_start-start.ensures (omega (arith, e.requires.enough, l.auto.cells));
     }
 
-pub loop-i-preserved : goal.loop-i-preserved
+pub loop-node-preserved : goal.loop-node-preserved
 unfolding detect_all_g
-loop-i-preserved c =
-    let l = c.loop-i in
+loop-node-preserved c =
+    let l = c.loop-node in
     let a = c.args in
     let x = c.detect_at-next in
-    let level = a.round.0 - 1 in
-    let α = node_at a.plan level (get_or a.nodes.now l.i 0) in
-    let αs = labels_of a.plan level a.nodes.now in
-    let now : Scan = record { list = l.grown; cells = l.cells } in (
-      omega arith,
-      x.auto.cells ∙ l.invariant.1,
-      ap (detect_all_g a.plan a.board a.run a.round (drop (l.i + 1) αs)) x.ensures
-          ∙ sym (ap (λ βs. detect_all_g a.plan a.board a.run a.round βs now) (labels-drop a.plan level l.i a.nodes.now (omega arith)))
-          ∙ l.invariant.2,
-    )
+    let level = a.seat.now.round.0 - 1 in
+    let α = node_at a.seat.now.tabled.plan level (get_or a.nodes.now l.node-index 0) in
+    let αs = labels_of a.seat.now.tabled.plan level a.nodes.now in
+    let now : Scan = record { list = l.grown; cells = l.cells } in
+    ap (detect_all_g a.seat.now.tabled.plan a.seat.now.board a.seat.now.run a.seat.now.round (drop (l.node-index + 1) αs)) x.ensures
+    ∙ sym (ap (λ βs. detect_all_g a.seat.now.tabled.plan a.seat.now.board a.seat.now.run a.seat.now.round βs now) (labels-drop a.seat.now.tabled.plan level l.node-index a.nodes.now (omega arith)))
+    ∙ l.invariant
 
 pub returns : goal.returns
 unfolding detect_all_g
 returns c =
-    let l = c.loop-i in
+    let l = c.loop-node in
     let a = c.args in
-    let αs = labels_of a.plan (a.round.0 - 1) a.nodes.now in
-    let end : drop l.i αs ≡ [] = drop_of_length-le αs (let z : length αs ≤ l.i = omega (arith, labels_length a.plan (a.round.0 - 1) a.nodes.now) in z) in
-    sym (ap (λ βs. detect_all_g a.plan a.board a.run a.round βs (record { list = l.grown; cells = l.cells })) end) ∙ l.invariant.2
-
-pub shape_of-cells : goal.shape_of-cells
-shape_of-cells c = c.loop-i.invariant.1
+    let αs = labels_of a.seat.now.tabled.plan (a.seat.now.round.0 - 1) a.nodes.now in
+    let end : drop l.node-index αs ≡ [] = drop_of_length-le αs (let z : length αs ≤ l.node-index = omega (arith, labels_length a.seat.now.tabled.plan (a.seat.now.round.0 - 1) a.nodes.now) in z) in
+    sym (ap (λ βs. detect_all_g a.seat.now.tabled.plan a.seat.now.board a.seat.now.run a.seat.now.round βs (record { list = l.grown; cells = l.cells })) end) ∙ l.invariant

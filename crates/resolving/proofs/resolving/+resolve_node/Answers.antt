@@ -5,17 +5,16 @@ use mathlib.Core.Logic.{◌≢◌}
 use mathlib.Core.Bool.{true}
 use native.Mathlib.Omega.{arith}
 use lib.Dec.{ltb}
-use borrow.Author.Rules.{rules}
 use borrow.Author.Tests.{ltb-true}
 use Rattle.sets.proofs.Tests.{and_l, not_t, not_f}
 use Rattle.protocol.specs.Nodes.{internal}
 use Rattle.resolving.specs.Promises.{node}
-use Rattle.resolving.proofs.Steps.{tabled, level-most, boards-below, inner-is, place-fits, place-there, bytes_fit, next_fits, width_fits, first_fits, level-fits, left-falls, board-few, board-fits, boards-left, leaf-settles, filling-start, filling-room, filling-there, number_small, filling_skip, child-stands, filling-here, filling-end}
+use Rattle.resolving.proofs.Steps.{boards-below, inner-is, place-fits, place-there, bytes_fit, next_fits, first_fits, leaf-settles, filling-start, filling-room, filling-there, number_small, filling_skip, child-stands, filling-here, filling-end}
 use Rattle.resolving.proofs.resolving.+resolve_node.Goals as goal
 use Rattle.resolving.proofs.resolving.+resolve_node.Goals.{Else-is_leaf, then-not-member, else-not-member}
 
 -- The node is internal, so levels are left.
-is-internal : (t : ℕ) (c : Else-is_leaf t) → internal c.args.plan c.args.board (node c.args.plan c.args.level c.args.index) ≡ true
+is-internal : (t : ℕ) (c : Else-is_leaf t) → internal c.args.tabled.now.plan c.args.board (node c.args.tabled.now.plan c.args.level c.args.index) ≡ true
 is-internal t c = sym (inner-is c.requires.convertible c.requires.at-node) ∙ not_f _ (sym c.is_leaf.ensures ∙ c.if-is_leaf.false)
 
 some_left : (t : ℕ) (c : Else-is_leaf t) → c.args.left ≢ 0
@@ -27,7 +26,7 @@ pub overflow_add-at : goal.overflow_add-at
 overflow_add-at t c = place-fits c.requires.convertible c.requires.at-node
 
 pub is_leaf-requires : goal.is_leaf-requires
-is_leaf-requires t c = record { tabled = tabled c.requires.convertible; below = boards-below c.requires.convertible c.requires.at-node }
+is_leaf-requires t c = boards-below c.requires.convertible c.requires.at-node
 
 pub settle_leaf-requires : goal.settle_leaf-requires
 settle_leaf-requires t c = place-there c.requires.convertible c.requires.at-node
@@ -41,50 +40,26 @@ returns-then-is_leaf t c =
 pub overflow_add-next : goal.overflow_add-next
 overflow_add-next t c = next_fits c.requires.convertible c.requires.at-node c.level_size.result c.level_size.ensures
 
-pub overflow_sub-child : goal.overflow_sub-child
-overflow_sub-child t c = level-most c.requires.convertible c.requires.at-node
-
-pub overflow_cast-child : goal.overflow_cast-child
-overflow_cast-child t c = width_fits c.requires.convertible c.requires.at-node
-
 pub overflow_mul-child : goal.overflow_mul-child
 overflow_mul-child t c = first_fits c.requires.convertible c.requires.at-node
 
 pub loop-c-init : goal.loop-c-init
 loop-c-init t c = filling-start c.requires.convertible c.requires.at-node
 
-pub overflow_add-level : goal.overflow_add-level
-overflow_add-level t c = level-fits c.requires.convertible c.requires.at-node
-
-pub overflow_shl-c : goal.overflow_shl-c
-overflow_shl-c t c = board-few c.requires.convertible c.requires.at-node c.loop-c.c c.loop-c-test.true
-
-pub overflow_sub-left : goal.overflow_sub-left
-overflow_sub-left t c = omega (arith, some_left t (goal.at.overflow_sub-left t c).Else-is_leaf)
-
 pub resolve_node-requires : goal.resolve_node-requires
 resolve_node-requires t c =
     let l = c.loop-c in
     let ne = some_left t (goal.at.resolve_node-requires t c).Else-is_leaf in
     let out = sym c.member.ensures ∙ c.if-not-member.true in (
-      left-falls c.requires.convertible c.requires.at-node c.decreases ne,
+      omega (arith, c.decreases),
       record {
         convertible = filling-room c.requires.convertible c.requires.at-node l.invariant;
         at-node = child-stands c.requires.convertible c.requires.at-node l.invariant c.loop-c-test.true out ne c.level_size.ensures refl;
       },
     )
 
-pub bounds-values-c : goal.bounds-values-c
-bounds-values-c t c = board-few c.requires.convertible c.requires.at-node c.loop-c.c c.loop-c-test.true
-
-pub offset_bounds-values-c : goal.offset_bounds-values-c
-offset_bounds-values-c t c = let h = board-few c.requires.convertible c.requires.at-node c.loop-c.c c.loop-c-test.true in search rules
-
 pub overflow_add-child : goal.overflow_add-child
 overflow_add-child t c = record { fits = omega (arith, number_small c.requires.convertible c.requires.at-node c.loop-c.invariant) }
-
-pub loop-c-smaller : goal.loop-c-smaller
-loop-c-smaller t c = boards-left _ c.loop-c.c c.loop-c-test.true
 
 pub loop-c-preserved : goal.loop-c-preserved
 loop-c-preserved t c =
@@ -94,9 +69,6 @@ loop-c-preserved t c =
       | then-not-member w ↦ filling-here c.requires.convertible c.requires.at-node f inside (sym c.member.ensures ∙ w.if-not-member.true) w.resolve_node.ensures w.child-is w.values-is w.cells-is
       | else-not-member w ↦ filling_skip c.requires.convertible c.requires.at-node f inside (sym c.member.ensures ∙ w.if-not-member.false) w.child-is w.values-is w.cells-is
     ]
-
-pub vote-v-requires : goal.vote-v-requires
-vote-v-requires t c = tabled c.requires.convertible
 
 pub offset_bounds-cells-at : goal.offset_bounds-cells-at
 offset_bounds-cells-at t c = bytes_fit c.requires.convertible c.requires.at-node
@@ -108,6 +80,3 @@ pub returns : goal.returns
 returns t c =
     let z = (goal.at.returns t c).Else-is_leaf in
     filling-end c.requires.convertible c.requires.at-node c.loop-c.invariant c.loop-c-test.false (some_left t z) (is-internal t z) c.vote-v.ensures
-
-pub overflow_add-c : goal.overflow_add-c
-overflow_add-c t c = board-fits c.requires.convertible c.requires.at-node c.loop-c.c c.loop-c-test.true

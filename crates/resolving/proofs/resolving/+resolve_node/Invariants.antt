@@ -1,4 +1,3 @@
-use Rattle.std.proofs.Common.{◌-◌}
 use Rattle.resolving.proofs.Steps.{Filling}
 use Rattle.resolving.proofs.resolving.+resolve_node.Given as goal
 
@@ -6,7 +5,4 @@ abbrev pub decreases-resolve_node : goal.decreases-resolve_node
 decreases-resolve_node l = l.left
 
 abbrev pub invariant-loop-c : goal.invariant-loop-c
-invariant-loop-c l = Filling l.plan l.board l.level l.index l.boards l.left l.c l.child l.values l.initial.cells l.cells
-
-abbrev pub decreases-loop-c : goal.decreases-loop-c
-decreases-loop-c l = l.n - l.c
+invariant-loop-c l = Filling l.tabled.plan l.board l.level l.index l.boards l.left l.c l.child l.values l.initial.cells l.cells

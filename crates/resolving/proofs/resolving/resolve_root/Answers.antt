@@ -9,6 +9,6 @@ pub returns-then-v : goal.returns-then-v
 returns-then-v c =
     none-roots c.requires.convertible c.requires.top-is c.resolve_node-v.ensures c.if-v.true c.default.ensures
 
-pub returns : goal.returns
-returns c =
+pub returns-else-v : goal.returns-else-v
+returns-else-v c =
     some-roots c.requires.convertible c.requires.top-is c.resolve_node-v.ensures c.if-v.false

@@ -6,26 +6,19 @@ use Rattle.rule_c.specs.Reading.{levels_by}
 use Rattle.rule_c.proofs.Level.{levels-step, levels-done}
 use Rattle.rule_c.proofs.rule_c.detect_levels.Goals as goal
 
-pub overflow_sub-level : goal.overflow_sub-level
-overflow_sub-level c = omega (arith, c.requires.convertible.some-round, c.requires.top-is)
-
 pub loop-level-init : goal.loop-level-init
 loop-level-init c =
     let a = c.args in
-    (omega (arith, c.requires.convertible.some-round, c.requires.top-is), ap (λ k. levels_by a.plan a.board a.run a.round a.cells.now (k - 1) a.list) c.requires.top-is)
-
-pub detect_level-next-requires : goal.detect_level-next-requires
-detect_level-next-requires c =
-    record { convertible = c.requires.convertible; low = omega arith; high = omega (arith, c.requires.top-is) }
+    (omega (arith, c.requires.convertible.some-round, c.requires.top-is), ap (λ k. levels_by a.tabled.now.plan a.board a.run a.round a.cells.now (k - 1) a.list) c.requires.top-is)
 
 pub loop-level-preserved : goal.loop-level-preserved
 loop-level-preserved c =
     let l = c.loop-level in
     let a = c.args in
-    (omega arith, levels-step a.plan a.board a.run a.round a.cells.now l.level l.grown c.detect_level-next.result (omega arith) c.detect_level-next.ensures ∙ l.invariant.1)
+    (omega arith, levels-step a.tabled.now.plan a.board a.run a.round a.cells.now (l.level - 1) l.grown c.detect_level-next.result (omega arith) c.detect_level-next.ensures ∙ l.invariant.1)
 
 pub returns : goal.returns
 returns c =
     let l = c.loop-level in
     let a = c.args in
-    sym (levels-done a.plan a.board a.run a.round a.cells.now l.level l.grown (omega arith)) ∙ l.invariant.1
+    sym (levels-done a.tabled.now.plan a.board a.run a.round a.cells.now (l.level - 1) l.grown (omega arith)) ∙ l.invariant.1

@@ -1,9 +1,9 @@
 -- `store_at` meets its contract: storing what is left of the frame gives the same as storing all of it.
 use Prim.Native.Nat.{◌+◌, ◌≤◌, ◌<◌}
-use mathlib.Core.Path.{◌≡◌, refl, sym, ap, ap₂, ◌∙◌}
+use mathlib.Core.Path.{◌≡◌, sym, ap, ap₂, ◌∙◌}
 use native.Mathlib.Omega.{arith}
 use mathlib.Core.List.{[], ◌∷◌}
-use lib.ListN.{length, get_or, drop, length-set, drop_of_length-le}
+use lib.ListN.{length, get_or, drop, drop_of_length-le}
 use borrow.Author.Rules.{rules}
 use Rattle.codec.specs.Codec.{current, decode}
 use Rattle.tree.specs.Places.{place, child_index}
@@ -27,10 +27,7 @@ stroke c =
     c.requires.without c.requires.sender c.level_start-start.ensures
     (c.child_index-child.ensures
     ∙ ap₂ (λ x s. child_index c.args.plan.n c.args.level x s c.args.q) c.index_of.ensures c.boards_of.ensures)
-    (omega (arith, c.requires.enough, c.loop-i.invariant.1))
-
-pub loop-i-init : goal.loop-i-init
-loop-i-init c = (omega arith, refl, refl)
+    (omega (arith, c.requires.enough, c.loop-i.auto.cells))
 
 pub overflow_cast-index_of : goal.overflow_cast-index_of
 overflow_cast-index_of c =
@@ -39,28 +36,22 @@ overflow_cast-index_of c =
     record { fits = omega (arith, c.index_of.ensures) }
 
 pub overflow_add-cells : goal.overflow_add-cells
-overflow_add-cells c = record { fits = omega (arith, (stroke c).1) }
+overflow_add-cells c = record { fits = omega (arith, (stroke (goal.at.overflow_add-cells c).After-entry_at).1) }
 
 pub offset_bounds-cells-start : goal.offset_bounds-cells-start
-offset_bounds-cells-start c = search (rules, (stroke c).1)
+offset_bounds-cells-start c = search (rules, (stroke (goal.at.offset_bounds-cells-start c).After-entry_at).1)
 
 pub bounds-cells-start : goal.bounds-cells-start
-bounds-cells-start c = (stroke c).1
+bounds-cells-start c = (stroke (goal.at.bounds-cells-start c).After-entry_at).1
 
 pub loop-i-preserved : goal.loop-i-preserved
 loop-i-preserved c =
     let l = c.loop-i in
     let a = c.args in
-    let αs = labels_of a.plan a.level a.nodes.now in (
-      omega arith,
-      length-set l.cells _ c.entry_at.result ∙ l.invariant.1,
-      sym (fill_step a.plan a.q (node_at a.plan a.level (get_or a.nodes.now l.i 0)) (drop (l.i + 1) αs) (drop l.i αs) l.i _ c.entry_at.result (decode current a.frame.now) l.cells
-          (labels-drop a.plan a.level l.i a.nodes.now (omega arith)) (stroke c).0 c.entry_at.ensures)
-          ∙ l.invariant.2,
-    )
-
-pub shape_of-cells : goal.shape_of-cells
-shape_of-cells c = c.loop-i.invariant.1
+    let αs = labels_of a.plan a.level a.nodes.now in
+    sym (fill_step a.plan a.q (node_at a.plan a.level (get_or a.nodes.now l.i 0)) (drop (l.i + 1) αs) (drop l.i αs) l.i _ c.entry_at.result (decode current a.frame.now) l.cells
+    (labels-drop a.plan a.level l.i a.nodes.now (omega arith)) (stroke (goal.at.loop-i-preserved c).After-entry_at).0 c.entry_at.ensures)
+    ∙ l.invariant
 
 pub returns : goal.returns
 unfolding fill
@@ -69,4 +60,4 @@ returns c =
     let a = c.args in
     let αs = labels_of a.plan a.level a.nodes.now in
     let end : drop l.i αs ≡ [] = drop_of_length-le αs (let z : length αs ≤ l.i = omega (arith, labels_length a.plan a.level a.nodes.now) in z) in
-    sym (ap (λ βs. fill a.plan a.q βs (drop l.i (decode current a.frame.now)) l.cells) end) ∙ l.invariant.2
+    sym (ap (λ βs. fill a.plan a.q βs (drop l.i (decode current a.frame.now)) l.cells) end) ∙ l.invariant

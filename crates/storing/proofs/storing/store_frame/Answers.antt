@@ -1,9 +1,6 @@
 -- `store_frame` meets its contract: what is stored are the values that count.
-use Prim.Native.Nat.{◌-◌, ◌≤◌}
 use mathlib.Core.Path.{◌≡◌, sym, ap, ◌∙◌}
 use native.Mathlib.Omega.{arith}
-use lib.ListN.{length, take}
-use lib.Seq.{take_all}
 use Rattle.codec.specs.Codec.{current, decode}
 use Rattle.codec.proofs.Codec.{decode-none}
 use Rattle.sets.specs.Sets.{member}
@@ -14,26 +11,17 @@ use Rattle.frames.proofs.Strokes.{counted-all, counted-misfit, counted-listed}
 use Rattle.storing.proofs.storing.store_frame.Goals as goal
 use Rattle.storing.proofs.storing.store_frame.Goals.{else-value_count-nodes, else-value_count-nodes-via-else-value_count-nodes, else-value_count-nodes-via-then-value_count-nodes+else-not-member, then-value_count-nodes+then-not-member}
 
-pub slice_bounds-store_at-end : goal.slice_bounds-store_at-end
-slice_bounds-store_at-end c =
-    let a = c.args in
-    let z : c.if-value_count-nodes.length ≤ length a.frame.now = elim c.if-value_count-nodes.branch [
-      | then-value_count-nodes+then-not-member w ↦ omega (arith, w.length-is)
-      | else-value_count-nodes w ↦ omega (arith, w.length-is)
-    ] in
-    z
-
 pub returns : goal.returns
 returns c =
     let a = c.args in
     let αs = labels_of a.plan a.level a.nodes.now in
     let f = a.frame.now in
     let nodes = labels_length a.plan a.level a.nodes.now in
-    let values : decode current (take (c.if-value_count-nodes.length - 0) f) ≡ counted a.list a.q αs (decode current f) =
+    let values : decode current c.if-value_count-nodes.values.now ≡ counted a.list a.q αs (decode current f) =
     elim c.if-value_count-nodes.branch [
-      | then-value_count-nodes+then-not-member w ↦ ap (decode current) (ap (λ k. take (k - 0) f) w.length-is ∙ take_all (length f - 0) f (omega arith))
+      | then-value_count-nodes+then-not-member w ↦ ap (λ x. decode current x.now) w.values-is
           ∙ sym (counted-all a.list a.q αs (decode current f) (omega (arith, w.if-value_count-nodes.true, c.value_count.ensures)) (ap (member a.q) (sym w.as_set.ensures) ∙ sym w.member.ensures ∙ w.if-not-member.true))
-      | else-value_count-nodes w ↦ ap (λ k. decode current (take (k - 0) f)) w.length-is ∙ decode-none current
+      | else-value_count-nodes w ↦ ap (λ x. decode current x.now) w.values-is ∙ decode-none current
           ∙ sym (elim w.else-value_count-nodes.branch [
             | else-value_count-nodes-via-then-value_count-nodes+else-not-member x ↦ counted-listed a.list a.q αs (decode current f) (ap (member a.q) (sym x.as_set.ensures) ∙ sym x.member.ensures ∙ x.if-not-member.false)
             | else-value_count-nodes-via-else-value_count-nodes x ↦ counted-misfit a.list a.q αs (decode current f) (λ e. x.if-value_count-nodes.false (c.value_count.ensures ∙ e ∙ nodes))

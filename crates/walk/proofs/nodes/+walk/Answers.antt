@@ -8,9 +8,8 @@ use mathlib.Core.Path.{◌≡◌, sym, ap, ◌∙◌}
 use mathlib.Core.Bool.{Bool, true, false}
 use mathlib.Core.List.{List, [], ◌∷◌}
 use native.Mathlib.Omega.{arith}
-use borrow.Author.Rules.{rules}
 use Rattle.sets.specs.Sets.{member, insert}
-use Rattle.tree.proofs.Descent.{insert-byte}
+use Rattle.sets.proofs.Collect.{insert-byte}
 use Rattle.walk.specs.Listing.{Written}
 use Rattle.internal.specs.Numbers.{pack}
 use Rattle.internal.specs.Tests.{is_open}
@@ -19,17 +18,11 @@ use Rattle.walk.proofs.Steps.{walked-shut, walked-last, walked-inner, number_fit
 use Rattle.walk.proofs.nodes.+walk.Goals as goal
 use Rattle.walk.proofs.nodes.+walk.Goals.{After-node_of, In-loop-c, then-is_open+then-left-eq1, then-is_open+else-left-eq1, else-is_open, then-not-member, else-not-member}
 
-pub is_open-requires : goal.is_open-requires
-is_open-requires t c = let p = c.requires in record { whole = p.whole; small = p.small }
-
 pub returns-then-not-is_open : goal.returns-then-not-is_open
 returns-then-not-is_open t c =
     let a = c.args in
     let e = walked-shut (is_open (a.holders).now a.without) a.n a.spare a.left a.index a.last a.boards (sym c.is_open.ensures ∙ c.if-not-is_open.true) in
     record { counted = omega (arith, ap length e); content = ap (sets (a.nodes).now a.used) (sym e) }
-
-pub node_of-requires : goal.node_of-requires
-node_of-requires t c = omega (arith, c.requires.number, ap (λ k. 8 ^ (7 - k)) c.if-left-eq0.true)
 
 -- A node of the level is written.
 here : (t : ℕ) (c : After-node_of t) → walked (is_open c.args.holders.now c.args.without) c.args.n c.args.spare c.args.left c.args.index c.args.last c.args.boards ≡ pack c.args.index c.args.last c.args.boards ∷ []
@@ -41,12 +34,6 @@ here t c =
 pub bounds-nodes-used : goal.bounds-nodes-used
 bounds-nodes-used t c = omega (arith, c.requires.room, ap length (here t (goal.at.bounds-nodes-used t c).After-node_of))
 
-pub offset_bounds-nodes-used : goal.offset_bounds-nodes-used
-offset_bounds-nodes-used t c = let h : c.args.used < length c.args.nodes.now = omega (arith, c.requires.room, ap length (here t (goal.at.offset_bounds-nodes-used t c).After-node_of)) in search rules
-
-pub overflow_add-result : goal.overflow_add-result
-overflow_add-result t c = let h : c.args.used < length c.args.nodes.now = omega (arith, c.requires.room, ap length (here t (goal.at.overflow_add-result t c).After-node_of)) in search rules
-
 pub returns-then-left-eq0 : goal.returns-then-left-eq0
 returns-then-left-eq0 t c =
     let a = c.args in
@@ -56,12 +43,6 @@ returns-then-left-eq0 t c =
       content = ap (set (a.nodes).now a.used) c.node_of.ensures ∙ ap (sets (a.nodes).now a.used) (sym h);
     }
 
-pub overflow_add-next : goal.overflow_add-next
-overflow_add-next t c = record { fits = omega (arith, c.requires.width) }
-
-pub overflow_cast-next : goal.overflow_cast-next
-overflow_cast-next t c = record { fits = omega (arith, c.requires.width) }
-
 pub overflow_mul-next : goal.overflow_mul-next
 overflow_mul-next t c =
     let p = c.requires in
@@ -70,6 +51,7 @@ overflow_mul-next t c =
         arith,
         number_fits c.args.left c.args.index c.if-left-eq0.false (omega (arith, p.width)) p.number,
         mul-le-mul_left c.args.index p.width,
+        ap (λ w. c.args.index * w) c.from.ensures,
       );
     }
 
@@ -78,7 +60,7 @@ loop-c-init t c =
     let a = c.args in
     let test = is_open (a.holders).now a.without in
     walking_start (walked test a.n a.spare (a.left - 1)) a.boards a.n (a.index * (a.spare + a.left)) a.used _ (a.nodes).now
-    (walked-inner test a.n a.spare a.left a.index a.last a.boards c.if-left-eq0.false (sym c.is_open.ensures ∙ c.if-not-is_open.false))
+    _ (ap (λ w. a.index * w) c.from.ensures) (walked-inner test a.n a.spare a.left a.index a.last a.boards c.if-left-eq0.false (sym c.is_open.ensures ∙ c.if-not-is_open.false))
 
 -- The children so far, at a child.
 module _ {t : ℕ} (x : In-loop-c t) where
@@ -111,7 +93,7 @@ module _ {t : ℕ} (x : In-loop-c t) where
       let a = x.args in
       let l = x.loop-c in
       rw joined
-      (walking-room (walked test a.n a.spare (a.left - 1)) a.boards a.n (a.index * (a.spare + a.left)) a.used _ (a.nodes).now l.c l.next l.at l.nodes l.invariant x.loop-c-test.true out x.requires.room)
+      (walking-room (walked test a.n a.spare (a.left - 1)) a.boards a.n (a.index * (a.spare + a.left)) a.used _ (a.nodes).now l.c l.next l.at l.nodes l.invariant x.loop-c-test.true out l.auto.nodes x.requires.room)
 
   shut : test grown ≡ false → part grown ≡ []
   shut e = let a = x.args in walked-shut test a.n a.spare (a.left - 1) x.loop-c.next x.loop-c.c grown e
@@ -119,34 +101,14 @@ module _ {t : ℕ} (x : In-loop-c t) where
   leaf : x.args.left ≡ 1 → test grown ≡ true → part grown ≡ pack x.loop-c.next x.loop-c.c grown ∷ []
   leaf e o = let a = x.args in walked-last test a.n a.spare (a.left - 1) x.loop-c.next x.loop-c.c grown (omega arith) o
 
-pub overflow_shl-below : goal.overflow_shl-below
-overflow_shl-below t c = omega (arith, c.requires.most-boards)
-
 pub is_open-requires-then-not-member : goal.is_open-requires-then-not-member
 is_open-requires-then-not-member t c = record { whole = c.requires.whole; small = small (goal.at.is_open-requires-then-not-member t c).In-loop-c }
-
-pub node_of-requires-then-left-eq1 : goal.node_of-requires-then-left-eq1
-node_of-requires-then-left-eq1 t c = omega (arith, number (goal.at.node_of-requires-then-left-eq1 t c).In-loop-c, ap (λ k. 8 ^ (7 - (k - 1))) c.if-left-eq1.true)
 
 pub bounds-nodes-at : goal.bounds-nodes-at
 bounds-nodes-at t c =
     let x = (goal.at.bounds-nodes-at t c).In-loop-c in
     let free = sym c.member.ensures ∙ c.if-not-member.true in
     omega (arith, room x free, ap length (leaf x c.if-left-eq1.true (sym c.is_open-then-not-member.ensures ∙ c.if-is_open.true)))
-
-pub offset_bounds-nodes-at : goal.offset_bounds-nodes-at
-offset_bounds-nodes-at t c =
-    let x = (goal.at.offset_bounds-nodes-at t c).In-loop-c in
-    let free = sym c.member.ensures ∙ c.if-not-member.true in
-    let h : c.loop-c.at < length c.loop-c.nodes = omega (arith, room x free, ap length (leaf x c.if-left-eq1.true (sym c.is_open-then-not-member.ensures ∙ c.if-is_open.true))) in
-    search rules
-
-pub overflow_add-at : goal.overflow_add-at
-overflow_add-at t c =
-    let x = (goal.at.overflow_add-at t c).In-loop-c in
-    let free = sym c.member.ensures ∙ c.if-not-member.true in
-    let h : c.loop-c.at < length c.loop-c.nodes = omega (arith, room x free, ap length (leaf x c.if-left-eq1.true (sym c.is_open-then-not-member.ensures ∙ c.if-is_open.true))) in
-    search rules
 
 pub walk-at-requires : goal.walk-at-requires
 walk-at-requires t c =
@@ -163,12 +125,12 @@ walk-at-requires t c =
       },
     )
 
-pub overflow_add-next-then-not-member : goal.overflow_add-next-then-not-member
-overflow_add-next-then-not-member t c =
+pub overflow_add-next : goal.overflow_add-next
+overflow_add-next t c =
     let p = c.requires in
     let l = c.loop-c in
     let e = number_fits c.args.left c.args.index c.if-left-eq0.false (omega (arith, p.width)) p.number in
-    record { fits = omega (arith, l.invariant.number, l.invariant.inside, p.most-boards, mul-le-mul_left c.args.index p.width) }
+    record { fits = omega (arith, l.invariant.number, p.most-boards, mul-le-mul_left c.args.index p.width) }
 
 pub loop-c-preserved : goal.loop-c-preserved
 loop-c-preserved t c =

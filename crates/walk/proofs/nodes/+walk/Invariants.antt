@@ -11,6 +11,3 @@ abbrev pub invariant-loop-c : goal.invariant-loop-c
 invariant-loop-c l =
     let test = is_open l.holders l.without in
     Walking l.n (l.index * (l.spare + l.left)) l.c l.next l.at l.used (rest (walked test l.n l.spare (l.left - 1)) l.boards l.n l.next l.c) (walked test l.n l.spare l.left l.index l.last l.boards) l.nodes l.initial.nodes
-
-abbrev pub decreases-loop-c : goal.decreases-loop-c
-decreases-loop-c l = l.n - l.c
