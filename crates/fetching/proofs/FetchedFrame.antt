@@ -9,7 +9,7 @@ use native.Mathlib.Omega.{arith}
 use lib.Dec.{ltb}
 use lib.ListN.{length, get_or, take, drop, set, drop_of_length-le, length-drop, length-append, length-take}
 use lib.Seq.{get_or-drop, take_at, take_all, set_at, drop-cons, append_snoc}
-use borrow.Author.Tests.{lt-ltb, le-ltb, ltb-true, ltb-false}
+use borrow.Author.Tests.{lt-ltb, ltb-true, ltb-false}
 use Rattle.sets.proofs.Tests.{cases}
 use Rattle.hexadecimal.specs.Hex.{digit}
 use Rattle.hexadecimal.specs.Bytes.{byte_of, byte_at, bytes_from}
@@ -87,23 +87,22 @@ module _ (digits buffer : List ℕ) where
       ap₂ (λ k b. record { count = some k; buffer = b })
       (e ∙ ap (λ n. min n (length buffer)) (sym (bytes-length digits 0 (length digits / 2)))) (ap decoded e ∙ decoded-whole)
 
--- What is read of the frame at a place.
-module _ (v : Option (List ℕ)) (text buffer : List ℕ) (at : ℕ) (here : frame_at text at ≡ v) where
-  pub read-missing : length text ≤ at → record { count = none; buffer = buffer } ≡ read_into v buffer
-  unfolding frame_at read_length read_bytes
-  read-missing l =
-      let x : none ≡ v = rw (le-ltb at (length text) l) at here in
-      rw (← x) refl
+-- What is read where there is no frame.
+pub read-missing : (v : Option (List ℕ)) (buffer : List ℕ) → none ≡ v → record { count = none; buffer = buffer } ≡ read_into v buffer
+unfolding read_length read_bytes
+read-missing v buffer missing = rw (← missing) refl
 
+-- What is read of the frame that the first of some frame lines has.
+module _ (v : Option (List ℕ)) (text buffer : List ℕ) (here : frame_at text 0 ≡ v) where
   -- With what the code has in hand: the line's end e, the digits, and what was read of them.
-  pub read_found : at < length text → (e : ℕ) (digits : List ℕ) (read : Read) → e ≡ line_stop text at → digits ≡ drop 8 (take (e - at) (drop at text))
+  pub read_found : 0 < length text → (e : ℕ) (digits : List ℕ) (read : Read) → e ≡ line_stop text 0 → digits ≡ drop 8 (take e text)
       → read ≡ read_into (some (bytes_from digits 0 (length digits / 2))) buffer → read ≡ read_into v buffer
   unfolding frame_at line_at
   read_found l e digits read ends ed er =
-      let line = line_at text at in
+      let line = line_at text 0 in
       let vs = bytes_from digits 0 (length digits / 2) in
-      let same : digits ≡ drop 8 line = ed ∙ ap (λ m. drop 8 (take (m - at) (drop at text))) ends in
-      let is : some (line_frame line).values ≡ v = rw (lt-ltb at (length text) l) at here in
+      let same : digits ≡ drop 8 line = ed ∙ ap (λ m. drop 8 (take m text)) (let z : e ≡ line_stop text 0 - 0 = omega (arith, ends) in z) in
+      let is : some (line_frame line).values ≡ v = rw (lt-ltb 0 (length text) l) at here in
       let values : some vs ≡ v = ap (λ d. some (bytes_from d 0 (length d / 2))) same ∙ ap some (values-later line) ∙ is in
       er ∙ ap (λ o. read_into o buffer) values
 

@@ -1,13 +1,12 @@
 -- What is read of a frame of a sheet. A middle layer: the frame is `find_frame` of sheet/Playing.
 use Rattle.std.specs.Prelude.{ℕ, min, List, ◌++◌, length, take, drop}
 use Rattle.std.proofs.Math.Option.{Option, some, none}
-use Rattle.fetching.specs.declared.fetching.Found.{Found}
-use Rattle.fetching.specs.declared.fetching.Found.TheVariants.{Missing, Bytes}
+use Rattle.std.specs.Prelude as Std
 
 -- A frame of the sheet: none, or how many of its bytes were read.
-unfoldable pub found_says : Found → Option ℕ
-found_says Missing = none
-found_says (Bytes k) = some k
+unfoldable pub found_says : Std.Option ℕ → Option ℕ
+found_says Std.None = none
+found_says (Std.Some k) = some k
 
 -- What is read of a frame, as many bytes as the buffer takes: their number, none if there is no frame, and the buffer.
 pub record Read : Type 0 where

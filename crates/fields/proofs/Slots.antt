@@ -34,6 +34,6 @@ module _ (line : List ℕ) where
       ∙ ap (λ x. x ++ replicate (255 - (k + 1)) 0) (sym more)
 
   -- The part of the slots that holds the sets.
-  pub slots-part : (k : ℕ) (sets : List ℕ) → sets ≡ slots k → take (k - 0) sets ≡ bytes_from line (sets_place current) k
-  slots-part k sets e =
-      ap₂ take (let z : k - 0 ≡ k = omega arith in z) e ∙ take_at (bytes_from line (sets_place current) k) (replicate (255 - k) 0) k (bytes-length line (sets_place current) k)
+  pub slots-part : (k m : ℕ) (sets : List ℕ) → m ≡ k → sets ≡ slots k → take m sets ≡ bytes_from line (sets_place current) k
+  slots-part k m sets same e =
+      ap₂ take same e ∙ take_at (bytes_from line (sets_place current) k) (replicate (255 - k) 0) k (bytes-length line (sets_place current) k)

@@ -1,5 +1,5 @@
 -- Frame lines as the code reads them, their keys. A middle layer: a frame line is `frame_line` of sheet/Sheet.
-use Rattle.std.specs.Prelude.{ℕ, ◌+◌, ◌-◌, ◌*◌, ◌/◌, ◌≡◌, Bool, true, ◌&&◌, cond, List, [], ◌∷◌, leb, ltb, length, drop}
+use Rattle.std.specs.Prelude.{ℕ, ◌+◌, ◌-◌, ◌*◌, ◌/◌, ◌≡◌, Bool, true, ◌&&◌, cond, List, [], ◌∷◌, leb, ltb, length}
 use Rattle.sheet.specs.Sheet.{Line, Frame, lines}
 use Rattle.hexadecimal.specs.Bytes.{byte_at, bytes_from}
 
@@ -17,9 +17,9 @@ unfoldable pub frames_of : List Line → List Frame
 frames_of [] = []
 frames_of (l ∷ ls) = line_frame l.text ∷ frames_of ls
 
--- The frames of the lines from place `at` on.
-unfoldable pub frames_from : List ℕ → ℕ → List Frame
-frames_from text at = frames_of (lines (drop at text))
+-- The frames of the frame lines of a text.
+unfoldable pub frames_in : List ℕ → List Frame
+frames_in text = frames_of (lines text)
 
 -- Run, round, sender and receiver as one number.
 unfoldable pub key_of : ℕ → ℕ → ℕ → ℕ → ℕ
@@ -33,9 +33,9 @@ unfoldable pub rising : ℕ → List Frame → Bool
 rising least [] = true
 rising least (f ∷ fs) = leb least (frame_key f) && rising (frame_key f + 1) fs
 
--- The frame lines from place `at` on rise.
-abbrev pub Rising : List ℕ → ℕ → Type 0
-Rising text at = rising 0 (frames_from text at) ≡ true
+-- The frame lines of a text rise.
+abbrev pub Rising : List ℕ → Type 0
+Rising text = rising 0 (frames_in text) ≡ true
 
 -- The frames from the first on whose key is `least` or above.
 unfoldable pub skip_frames : ℕ → List Frame → List Frame

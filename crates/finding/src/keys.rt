@@ -6,10 +6,11 @@ ghost use Rattle.finding.specs.Frames.{key_of};
 use hexadecimal::reading::byte_at;
 
 // Four bytes as one number.
+#[tactic(auto, unfolding(crate::specs::Frames::key_of))]
 pub fn key(run: u8, round: u8, sender: u8, receiver: u8) -> usize
     ensures { result ≡ key_of run round sender receiver }
 {
-    ((run as usize * 256 + round as usize) * 256 + sender as usize) * 256 + receiver as usize
+    u32::from_be_bytes([run, round, sender, receiver]) as usize
 }
 
 // The key of a frame line.

@@ -13,13 +13,17 @@ use Rattle.codec.specs.Codec.{Width, one, two, current, number_at}
 use Rattle.sets.specs.Sets.{within, boards}
 use Rattle.sets.specs.Structure.{tolerated}
 use Rattle.sets.proofs.Tests.{cases, or_right, true-not}
-use Rattle.refusals.specs.Outcome.{Outcome, taken, refused, and_then}
+use Rattle.std.specs.Prelude.{Ok, Err}
+use Rattle.refusals.specs.declared.refusal.Refusal.{Refusal}
+use Rattle.refusals.specs.Outcome.{Outcome, taken, refused, refusal, and_then}
 use Rattle.plan.specs.declared.plan.Plan.{Plan}
 use Rattle.settings.specs.declared.settings.Settings.{Settings}
 use Rattle.settings.specs.Planning.{planning}
 use Rattle.plan.specs.Calls.{planned}
 use Rattle.refusals.proofs.Outcomes.{refused-first}
 use Rattle.plan.proofs.Accepted.{accepted}
+use Rattle.heads.specs.Heads.{head_says, HeadRead}
+use Rattle.sheet.specs.declared.head.Head.{Head}
 use Rattle.sheet.specs.Sheet.{span_place, default_place, dealer_place, depth_place, word_place, count_place, sets_place, head_length, head_count, head_of, judge_head}
 use Rattle.hexadecimal.specs.Bytes.{byte_at, bytes_from}
 use Rattle.text.specs.Text.{number_from}
@@ -101,3 +105,13 @@ module _ (line : List ℕ) where
       all-at line (sets_place current + byte_at line (count_place current)) ∙ ap (byte_at line) (let z : sets_place current + byte_at line (count_place current) ≡ byte_at line (count_place current) + sets_place current = omega arith in z) in
       rw (all-at line 0, number-at current line (span_place current), number-at current line (default_place current), all-at line (dealer_place current), all-at line (depth_place current), number-at current line (word_place current), all-at line (count_place current), sets-are (head-sized ok), last) (
       rw (ep, ef, esets, es, en, em, ev) refl)
+
+  -- What is read of a head that is refused, and of one that is accepted.
+  pub head-refused : (why : Refusal) → refusal why ≡ judge_head current (all line) → HeadRead line (Err why)
+  unfolding head_says
+  head-refused why e = record { judges = e; gives = tt }
+
+  pub head-accepted : (h : Head) → taken [] ≡ judge_head current (all line) → ((judge_head current (all line)).number ≡ 0 → h ≡ head_of current (all line))
+      → HeadRead line (Ok h)
+  unfolding head_says
+  head-accepted h e made = record { judges = e; gives = made (ap (λ o. o.number) (sym e)) }

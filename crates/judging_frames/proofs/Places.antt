@@ -1,17 +1,16 @@
 -- What is judged of the lines from a place on, by the end of the first of them.
 -- Assumes nothing.
 use Prim.Native.Nat.{ℕ, ◌+◌, ◌-◌, ◌≤◌, ◌<◌}
-use mathlib.Core.Path.{◌≡◌, refl, sym, ap, ◌∙◌}
+use mathlib.Core.Path.{◌≡◌, refl, ap, ◌∙◌}
 use mathlib.Core.Logic.{◌≢◌}
 use mathlib.Core.Bool.{cond}
 use mathlib.Core.List.{List, []}
 use native.Mathlib.Omega.{arith}
 use lib.Dec.{eqb, ltb}
 use lib.ListN.{length, take, drop}
-use borrow.Author.Tests.{eq-eqb, ne_eqb, ltb-true}
-use Rattle.sets.proofs.Tests.{cases}
+use borrow.Author.Tests.{eq-eqb, ne_eqb}
 use Rattle.plan.specs.declared.plan.Plan.{Plan}
-use Rattle.refusals.specs.Outcome.{Outcome, taken, refused}
+use Rattle.refusals.specs.Outcome.{Outcome, taken}
 use Rattle.sheet.specs.Sheet.{lines, wrong_at}
 use Rattle.hexadecimal.proofs.Bytes.{byte-below}
 use Rattle.text.proofs.LineEnds.{stop, lines_none, lines_at}
@@ -46,14 +45,6 @@ module _ (p : Plan) (faulty : ℕ) (text : List ℕ) (least number at e : ℕ) w
 
     pub at-good : (o : Outcome) → o ≡ first → o.number ≡ 0 → judgement ≡ judge_lines p faulty (line_key digits + 1) (number + 1) (lines (drop (e + 1) text))
     at-good o same ok = opened ∙ rw (← same) (rw (eq-eqb o.number 0 ok) refl)
-
-    -- A line that is accepted is ended.
-    pub at_ended : (o : Outcome) → o ≡ first → o.number ≡ 0 → e < length text
-    unfolding judge_line
-    at_ended o same ok =
-        cases (ltb e (length text))
-        (λ x. ltb-true e (length text) x)
-        (λ x. absurd (let no_end : first ≡ refused 21 = rw x refl in let z : 21 ≡ 0 = ap (λ (y : Outcome). y.number) (sym (same ∙ no_end)) ∙ ok in omega arith))
 
 -- A key has four bytes.
 pub key_below : (line : List ℕ) → line_key line < 4294967296

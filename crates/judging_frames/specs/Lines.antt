@@ -1,22 +1,28 @@
 -- What is judged of all frame lines. A middle layer: what a sheet says is `reading` of sheet/Sheet.
-use Rattle.std.specs.Prelude.{ℕ, ◌+◌, ◌-◌, ◌≤◌, ◌≡◌, cond, List, [], ◌∷◌, eqb, get_or}
+use Rattle.std.specs.Prelude.{ℕ, ◌+◌, ◌-◌, ◌≤◌, ◌≡◌, cond, List, [], ◌∷◌, eqb, get_or, Result, Ok, Err}
 use Rattle.plan.specs.declared.plan.Plan.{Plan}
 use Rattle.plan.specs.Calls.{judged}
-use Rattle.refusals.specs.Outcome.{Outcome, taken, verdict}
+use Rattle.refusals.specs.Outcome.{Outcome, taken, refusal}
 use Rattle.sheet.specs.Sheet.{Line, wrong_at}
 use Rattle.finding.specs.Frames.{line_key}
 use Rattle.frame_lines.specs.FrameLines.{judge_line}
-use Rattle.judging_frames.specs.declared.lines.Judged.{Judged}
+use Rattle.judging_frames.specs.declared.lines.RefusedLine.{RefusedLine}
 
 -- A verdict on a sheet: for a refusal its line before its values.
-unfoldable pub judged_says : Judged → Outcome
-judged_says j = let o = verdict j.verdict in cond (eqb o.number 0) o (wrong_at j.line o)
+unfoldable pub judged_says : {A : Type 0} → Result A RefusedLine → Outcome
+judged_says (Ok _) = taken []
+judged_says (Err r) = wrong_at r.line (refusal r.why)
+
+-- The line of a refusal, 0 if there is none.
+unfoldable pub judged_line : {A : Type 0} → Result A RefusedLine → ℕ
+judged_line (Ok _) = 0
+judged_line (Err r) = r.line
 
 -- What is judged of some lines of a text of so many bytes: the outcome, its line, and a line that such a text can have.
-pub record JudgedAs (o : Outcome) (size : ℕ) (j : Judged) : Type 0 where
+pub record JudgedAs {A : Type 0} (o : Outcome) (size : ℕ) (j : Result A RefusedLine) : Type 0 where
   pub says : judged_says j ≡ o
-  pub line : j.line ≡ get_or o.values 0 0
-  pub few : j.line ≤ 1 + (size - 2)
+  pub line : judged_line j ≡ get_or o.values 0 0
+  pub few : judged_line j ≤ 1 + (size - 2)
 
 -- An accepted plan, and frame lines that begin after a first line.
 pub record Judgeable (p : Plan) (from : ℕ) : Type 0 where

@@ -1,6 +1,6 @@
 -- A sheet that is accepted: its head line, its head and its frames.
 -- Assumes nothing.
-use Prim.Native.Nat.{ℕ, ◌+◌, ◌-◌, ◌/◌, ◌<◌}
+use Prim.Native.Nat.{ℕ, ◌+◌, ◌/◌, ◌<◌}
 use mathlib.Core.Path.{◌≡◌, refl, sym, ap, subst, ◌∙◌}
 use mathlib.Core.Bool.{true, ◌&&◌}
 use mathlib.Core.List.{List, [], ◌∷◌}
@@ -20,7 +20,7 @@ use Rattle.sheet.proofs.Sheets.{frames-head}
 use Rattle.hexadecimal.specs.Bytes.{is_text}
 use Rattle.hexadecimal.proofs.Bytes.{all}
 use Rattle.text.proofs.LineEnds.{stop}
-use Rattle.finding.specs.Frames.{line_frame, frames_of, frames_from, frame_key, rising, Rising, line_key}
+use Rattle.finding.specs.Frames.{line_frame, frames_of, frames_in, frame_key, rising, Rising, line_key}
 use Rattle.frame_lines.specs.FrameLines.{good_line, judge_line}
 use Rattle.judging_frames.specs.Lines.{judge_lines}
 use Rattle.reader.specs.Reading.{judge_top}
@@ -64,25 +64,25 @@ module _ (text : List ℕ) (ok : (reading current text).answer.number ≡ 0) whe
   sheet-ended = begun.ended
 
   -- Its head is that of its first line's bytes.
-  pub sheet-head : (reading current text).head ≡ head_of current (all (take (stop text 0 - 0) text))
+  pub sheet-head : (reading current text).head ≡ head_of current (all (take (stop text 0) text))
   sheet-head =
-      let h = head_of current (all (take (stop text 0 - 0) text)) in ap (λ r. r.head) begun.reads ∙ frames-head h none 2 (lines (drop (stop text 0 + 1) text))
+      let h = head_of current (all (take (stop text 0) text)) in ap (λ r. r.head) begun.reads ∙ frames-head h none 2 (lines (drop (stop text 0 + 1) text))
 
   -- So it is the head that its first line's reading gives.
   pub sheet-given : (e : ℕ) (h : Head) → e ≡ stop text 0
-      → ((judge_head current (all (take (e - 0) text))).number ≡ 0 → h ≡ head_of current (all (take (e - 0) text))) → h ≡ (reading current text).head
+      → ((judge_head current (all (take e text))).number ≡ 0 → h ≡ head_of current (all (take e text))) → h ≡ (reading current text).head
   sheet-given e h ends gives =
-      subst (λ k. (judge_head current (all (take (k - 0) text))).number ≡ 0 → h ≡ head_of current (all (take (k - 0) text))) ends gives begun.accepted ∙ sym sheet-head
+      subst (λ k. (judge_head current (all (take k text))).number ≡ 0 → h ≡ head_of current (all (take k text))) ends gives begun.accepted ∙ sym sheet-head
 
-  pub sheet-frames : (reading current text).frames ≡ frames_from text (stop text 0 + 1)
-  unfolding frames_from
+  pub sheet-frames : (reading current text).frames ≡ frames_in (drop (stop text 0 + 1) text)
+  unfolding frames_in
   sheet-frames =
-      let h = head_of current (all (take (stop text 0 - 0) text)) in
+      let h = head_of current (all (take (stop text 0) text)) in
       ap (λ r. r.frames) begun.reads ∙ read-frames h (lines (drop (stop text 0 + 1) text)) none 2 (ap (λ r. r.answer.number) (sym begun.reads) ∙ ok)
 
-  pub sheet-rising : Rising text (stop text 0 + 1)
-  unfolding frames_from
+  pub sheet-rising : Rising (drop (stop text 0 + 1) text)
+  unfolding frames_in
   sheet-rising =
-      let h = head_of current (all (take (stop text 0 - 0) text)) in
+      let h = head_of current (all (take (stop text 0) text)) in
       lines-rising h.plan h.faulty (lines (drop (stop text 0 + 1) text)) 0 2
       (ap (λ (o : Outcome). o.number) (sym (sheet-answer text (stop text 0) refl begun)) ∙ ok)

@@ -17,9 +17,9 @@ use Rattle.codec.specs.Codec.{current}
 use Rattle.sets.specs.Sets.{member}
 use Rattle.sets.proofs.Tests.{cases, same_test, and_l, and_r}
 use Rattle.schedule.specs.Schedule.{has_round}
-use Rattle.refusals.specs.declared.refusal.Refusal.{Refusal}
-use Rattle.refusals.specs.declared.refusal.Verdict.TheVariants.{Refused}
-use Rattle.refusals.specs.Outcome.{refusal, verdict}
+use Rattle.std.specs.Prelude.{Err}
+use Rattle.judging_frames.specs.declared.lines.RefusedLine.{RefusedLine}
+use Rattle.refusals.specs.Outcome.{refusal}
 use Rattle.refusals.proofs.Outcomes.{refusal-number}
 use Rattle.protocol.specs.Nodes.{due}
 use Rattle.sheet.specs.declared.head.Head.{Head}
@@ -28,12 +28,12 @@ use Rattle.hexadecimal.specs.Bytes.{is_text, byte_at, bytes_from}
 use Rattle.hexadecimal.proofs.Bytes.{all, bytes-length, bytes_drop, text-bytes, text-none, byte-below, all-at}
 use Rattle.heads.proofs.Heads.{head-sized}
 use Rattle.sheet.proofs.Sheets.{frames-text, frames-wrong, frames-right}
-use Rattle.text.proofs.LineEnds.{stop, lines_at}
+use Rattle.text.proofs.LineEnds.{stop}
 use Rattle.frame_lines.specs.FrameLines.{expected, good_line, judge_line}
-use Rattle.judging_frames.specs.Lines.{judged_says, JudgedAs, judge_lines}
+use Rattle.judging_frames.specs.Lines.{judged_says, judged_line, JudgedAs, judge_lines}
 use Rattle.reader.specs.Reading.{judge_top}
 use Rattle.finding.specs.Frames.{line_frame, frames_of, key_of, line_key}
-use Rattle.reader.proofs.Places.{top-none}
+use Rattle.reader.proofs.Places.{top-none, first_line}
 
 -- Two numbers of two parts each, the second below w.
 earlier-key : (w a b x y : ℕ) → x < w → y < w → earlier a b (ltb x y) ≡ ltb (a * w + x) (b * w + y)
@@ -196,7 +196,7 @@ top_taken l ls ok =
 module _ (text : List ℕ) (e : ℕ) (ends : e ≡ stop text 0) where
   -- Its digits.
   abbrev top : List ℕ
-  top = take (e - 0) text
+  top = take e text
 
   pub record Begun : Type 0 where
     pub ended : e < length text
@@ -209,7 +209,7 @@ module _ (text : List ℕ) (e : ℕ) (ends : e ≡ stop text 0) where
       cases (ltb 0 (length text))
       (λ x. let l : Line = record { text = top; ended = ltb e (length text) } in
       let rest = lines (drop (e + 1) text) in
-      let at : lines text ≡ l ∷ rest = rw (sym ends) at (lines_at text 0 (ltb-true 0 (length text) x)) in
+      let at : lines text ≡ l ∷ rest = first_line text e (omega (arith, ltb-true 0 (length text) x)) ends in
       let t = top_taken l rest (ap (λ ls. (judge_top ls).number) (sym at) ∙ ok) in
       record { ended = ltb-true e (length text) t.ends; accepted = t.accepted; reads = ap (read_lines current) at ∙ t.reads })
       (λ x. absurd (let z : 22 ≡ 0 = ap (λ o. o.number) (sym (top-none text e (let y : length text ≡ 0 = omega (arith, ltb-false 0 (length text) x) in y))) ∙ ok in omega arith))
@@ -219,17 +219,18 @@ module _ (text : List ℕ) (e : ℕ) (ends : e ≡ stop text 0) where
   sheet-refused bad = top-refused (lines text) bad
 
   -- What is said of a head that is refused.
-  pub sheet-said : (why : Refusal) → refusal why ≡ judge_top (lines text) → JudgedAs (reading current text).answer (length text) (record { verdict = Refused why; line = 1 })
-  unfolding judged_says verdict wrong_at
-  sheet-said why same =
-      let bad = refusal-number why in
-      let x = sheet-refused (λ z. bad (ap (λ o. o.number) same ∙ z)) in
-      let said : judged_says (record { verdict = Refused why; line = 1 }) ≡ wrong_at 1 (refusal why) = rw (ne_eqb (refusal why).number 0 bad) refl in
-      record { says = said ∙ ap (wrong_at 1) same ∙ sym x; line = sym (ap (λ o. get_or o.values 0 0) x); few = omega arith }
+  pub sheet-said : {A : Type 0} (r : RefusedLine) → refusal r.why ≡ judge_top (lines text) → r.line ≡ 1
+      → JudgedAs {A = A} (reading current text).answer (length text) (Err r)
+  unfolding judged_says judged_line wrong_at
+  sheet-said r same first =
+      let bad = refusal-number r.why in
+      let x : (reading current text).answer ≡ wrong_at r.line (refusal r.why) =
+      sheet-refused (λ z. bad (ap (λ o. o.number) same ∙ z)) ∙ ap₂ wrong_at (sym first) (sym same) in
+      record { says = sym x; line = sym (ap (λ o. get_or o.values 0 0) x); few = omega (arith, first) }
 
   module _ (b : Begun) where
     pub sheet-far : 14 ≤ e
-    sheet-far = omega (arith, head-sized top b.accepted, length-take-le (e - 0) text (let z : e - 0 ≤ length text = omega (arith, b.ended) in z))
+    sheet-far = omega (arith, head-sized top b.accepted, length-take-le e text (let z : e ≤ length text = omega (arith, b.ended) in z))
 
     pub sheet-answer : (reading current text).answer ≡ judge_lines (head_of current (all top)).plan (head_of current (all top)).faulty 0 2 (lines (drop (e + 1) text))
     sheet-answer = ap (λ r. r.answer) b.reads ∙ read-judged (head_of current (all top)) (lines (drop (e + 1) text)) none 0 2 follows-none

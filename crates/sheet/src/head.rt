@@ -24,7 +24,7 @@ pub const COUNT: usize = WORD + VALUE_SIZE;
 pub const SETS: usize = COUNT + 1;
 
 // The head of a sheet: the plan that it names, the faulty boards, and the dealer's value.
-#[derive(Clone, Copy)]
+#[derive(Clone, Copy, Debug, PartialEq, Eq)]
 pub struct Head {
     pub plan: Plan,
     // The faulty boards, F.

@@ -7,13 +7,26 @@ use mathlib.Core.List.{List, [], ◌∷◌}
 use native.Mathlib.Omega.{arith}
 use native.Mathlib.Numerals.{add-one}
 use lib.Dec.{eqb, ltb}
-use lib.ListN.{length, get_or, take, drop, drop_of_length-le}
-use lib.Seq.{drop-cons}
+use lib.ListN.{length, get_or, take, drop, drop_of_length-le, length-drop}
+use lib.Seq.{drop-cons, get_or-drop}
 use borrow.Author.Tests.{lt-ltb, le-ltb}
 use Rattle.sets.specs.Search.{first}
 use Rattle.sets.proofs.Search.{first-le, first-ge, seek_hit, seek-miss, seek-none}
 use Rattle.sets.proofs.Tests.{cases}
 use Rattle.sheet.specs.Sheet.{Line, prepend, lines}
+
+-- A search from s on is one of what stands from s on.
+pull : (b : Bool) (s x y : ℕ) → cond b (s + x) (s + y) ≡ s + cond b x y
+pull true s x y = refl
+pull false s x y = refl
+
+later : (f g : ℕ → Bool) (s : ℕ) → ((k : ℕ) → f (s + k) ≡ g k) → (left i : ℕ) → first f left (s + i) ≡ s + first g left i
+unfolding first
+later f g s e zero i = refl
+later f g s e (suc left) i =
+    let next : first f left (suc (s + i)) ≡ s + first g left (suc i) =
+    ap (first f left) (let z : suc (s + i) ≡ s + suc i = omega arith in z) ∙ later f g s e left (suc i) in
+    ap₂ (λ b m. cond b (s + i) m) (e i) next ∙ pull (g i) s i (first g left (suc i))
 
 module _ (text : List ℕ) where
   abbrev newline : ℕ → Bool
@@ -22,6 +35,14 @@ module _ (text : List ℕ) where
   -- Where the line that begins at s ends, as `line_end` finds it.
   abbrev pub stop : ℕ → ℕ
   stop s = first (λ i. eqb (get_or text i 0) 10) (length text - s) s
+
+  -- By the part of the text from s on.
+  pub stop_part : (s : ℕ) (rest : List ℕ) → rest ≡ drop s text → s + first (λ i. eqb (get_or rest i 0) 10) (length rest) 0 ≡ stop s
+  stop_part s rest is =
+      let here : ℕ → Bool = λ k. eqb (get_or (drop s text) k 0) 10 in
+      rw is (ap (λ n. s + first here n 0) (length-drop s text)
+      ∙ sym (ap (first newline (length text - s)) (let z : s ≡ s + 0 = omega arith in z)
+      ∙ later newline here s (λ k. ap (λ c. eqb c 10) (sym (get_or-drop s text k 0))) (length text - s) 0))
 
   next : (s : ℕ) → s < length text → newline s ≡ false → stop (suc s) ≡ stop s
   next s l x = ap stop (sym (add-one s)) ∙ seek-miss newline (length text) s (stop s) refl l x

@@ -6,16 +6,14 @@ use Rattle.fields.proofs.Slots.{slots, slots-start, slots-more}
 use Rattle.fields.proofs.fields.sets_of.Goals as goal
 
 pub loop-k-init : goal.loop-k-init
-loop-k-init c = (omega arith, slots-start c.args.line.now)
+loop-k-init c = slots-start c.args.line.now
 
 pub loop-k-preserved : goal.loop-k-preserved
 loop-k-preserved c =
-    let line = c.args.line.now in
     let l = c.loop-k in
-    (omega arith, ap₂ (λ x v. set x l.k v) l.invariant.1 c.byte_at.ensures ∙ slots-more line l.k (omega arith))
+    ap₂ (λ x v. set x l.k v) l.invariant c.byte_at.ensures ∙ slots-more c.args.line.now l.k (omega arith)
 
 pub returns : goal.returns
 returns c =
-    let a = c.args in
     let l = c.loop-k in
-    l.invariant.1 ∙ ap (slots a.line.now) (let z : l.k ≡ a.count = omega arith in z)
+    l.invariant ∙ ap (slots c.args.line.now) (let z : l.k ≡ c.args.count = omega arith in z)

@@ -1,57 +1,38 @@
--- `skip` meets its contract: what is skipped from `at` on is what is skipped of all.
-use mathlib.Core.Path.{refl, ◌∙◌}
-use native.Mathlib.Omega.{arith}
-use Rattle.text.proofs.LineEnds.{stop-ge, stop_le}
+-- `skip` meets its contract: what is skipped of what is left is what is skipped of all.
+use Rattle.std.proofs.Common.{◌≡◌, ◌+◌, ◌<◌, ◌∙◌, ap, length, drop, arith, rules}
+use lib.ListN.{length-drop, length-take}
+use Rattle.std.proofs.lemmas.Grind.{common_steps}
+use Rattle.text.proofs.LineEnds.{stop_le}
+use Rattle.finding.specs.Frames.{frames_in, skip_frames}
 use Rattle.finding.proofs.FrameSearch.{skip_stop, skip-line, skip-end}
 use Rattle.finding.proofs.finding.skip.Goals as goal
 
-pub loop-at-init : goal.loop-at-init
-loop-at-init c = refl
-
-pub slice_bounds-key_of-start : goal.slice_bounds-key_of-start
-slice_bounds-key_of-start c =
-    let a = c.args in
-    omega (arith, c.line_end-end.ensures, stop-ge a.text.now c.loop-at.at)
-
 pub slice_bounds-key_of-end : goal.slice_bounds-key_of-end
 slice_bounds-key_of-end c =
-    let a = c.args in
-    let l = c.loop-at in
-    omega (arith, c.line_end-end.ensures, stop_le a.text.now l.at (omega arith))
+    let rest = c.loop-end.rest.now in
+    omega (arith, c.line_end-end.ensures, stop_le rest 0 (omega arith), length-take c.line_end-end.result rest)
 
 pub returns-then-least-key_of : goal.returns-then-least-key_of
 returns-then-least-key_of c =
-    let a = c.args in
-    let l = c.loop-at in
+    let rest = c.loop-end.rest.now in
+    let some : 0 < length rest = search rules in
+    skip_stop rest c.line_end-end.result c.key_of.result c.line_end-end.ensures c.key_of.ensures c.args.least some c.if-least-key_of.true ∙ c.loop-end.invariant.0
+
+pub overflow_add-end : goal.overflow_add-end
+overflow_add-end c = record { fits = omega (arith, c.line_end-end.ensures, stop_le c.loop-end.rest.now 0 (omega arith), c.loop-end.invariant.1) }
+
+pub loop-end-preserved : goal.loop-end-preserved
+loop-end-preserved c =
+    let rest = c.loop-end.rest.now in
     let e = c.line_end-end in
-    skip_stop a.text.now l.at e.result c.key_of.result e.ensures c.key_of.ensures a.least (omega arith) c.if-least-key_of.true ∙ l.invariant
-
-pub overflow_add-at : goal.overflow_add-at
-overflow_add-at c =
-    let a = c.args in
-    let l = c.loop-at in
-    record { fits = omega (arith, c.line_end-end.ensures, stop_le a.text.now l.at (omega arith)) }
-
-pub loop-at-smaller : goal.loop-at-smaller
-loop-at-smaller c =
-    let a = c.args in
-    let l = c.loop-at in
-    omega (arith, c.line_end-end.ensures, stop-ge a.text.now l.at)
-
-pub loop-at-preserved : goal.loop-at-preserved
-loop-at-preserved c =
-    let a = c.args in
-    let l = c.loop-at in
-    let e = c.line_end-end in
-    skip-line a.text.now l.at e.result c.key_of.result e.ensures c.key_of.ensures a.least (omega arith) c.if-least-key_of.false ∙ l.invariant
+    let some : 0 < length rest = search rules in
+    let next : c.unwrap_or-rest.result.now ≡ drop (e.result + 1) rest = grind (arith, common_steps) in (
+      ap (λ x. skip_frames c.args.least (frames_in x)) next
+          ∙ skip-line rest e.result c.key_of.result e.ensures c.key_of.ensures c.args.least some c.if-least-key_of.false ∙ c.loop-end.invariant.0,
+      omega (arith, ap length next, length-drop (e.result + 1) rest, c.loop-end.invariant.1),
+    )
 
 pub returns : goal.returns
 returns c =
-    let a = c.args in
-    let l = c.loop-at in
-    skip-end a.text.now l.at a.least (omega arith) ∙ l.invariant
-
-pub slice_bounds-key_of-count : goal.slice_bounds-key_of-count
-slice_bounds-key_of-count c =
-    let a = c.args in
-    omega (arith, c.line_end-end.ensures, stop-ge a.text.now c.loop-at.at)
+    let none : length c.loop-end.rest.now ≡ 0 = search rules in
+    skip-end c.loop-end.rest.now c.args.least none ∙ c.loop-end.invariant.0

@@ -1,11 +1,11 @@
-use Prim.Native.Nat.{◌-◌}
+use Prim.Native.Nat.{◌≤◌}
 use mathlib.Core.Path.{◌≡◌}
 use lib.ListN.{length}
-use Rattle.finding.specs.Frames.{frames_from, skip_frames}
+use Rattle.finding.specs.Frames.{frames_in, skip_frames}
 use Rattle.finding.proofs.finding.skip.Given as goal
 
-abbrev pub invariant-loop-at : goal.invariant-loop-at
-invariant-loop-at l = skip_frames l.least (frames_from l.text l.at) ≡ skip_frames l.least (frames_from l.text l.from)
+abbrev pub invariant-loop-end : goal.invariant-loop-end
+invariant-loop-end l = (skip_frames l.least (frames_in l.rest) ≡ skip_frames l.least (frames_in l.frames)) × (length l.rest ≤ length l.frames)
 
-abbrev pub decreases-loop-at : goal.decreases-loop-at
-decreases-loop-at l = length l.text - l.at
+abbrev pub decreases-loop-end : goal.decreases-loop-end
+decreases-loop-end l = length l.rest

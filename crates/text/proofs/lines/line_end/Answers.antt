@@ -1,26 +1,21 @@
--- `line_end` meets its contract: no newline before i.
-use mathlib.Core.Path.{refl}
-use native.Mathlib.Omega.{arith}
-use lib.Dec.{eqb}
-use lib.ListN.{length, get_or}
-use borrow.Author.Tests.{eq-eqb, ne_eqb}
-use Rattle.sets.proofs.Search.{seek_hit, seek-miss, seek-none}
+-- `line_end` meets its contract: what stands from `start` on is searched for a newline.
+use Rattle.std.proofs.Common.{◌≡◌, ◌+◌, ◌∙◌, ap, arith, rules, tests, eqb, length, drop}
+use Rattle.std.proofs.lemmas.Grind.{common_steps}
+use Rattle.std.specs.Option.{unwrap_or}
+use Rattle.std.proofs.lemmas.Iterator.{YieldsList-from_slice}
+use Rattle.std.proofs.lemmas.Iterator.Search.{position_from_yields_List}
+use Rattle.sets.proofs.Bridges.{place-or-end}
+use Rattle.text.proofs.LineEnds.{stop_part}
 use Rattle.text.proofs.lines.line_end.Goals as goal
-
-pub loop-i-init : goal.loop-i-init
-loop-i-init c = refl
-
-pub returns-then-text-i-eq10 : goal.returns-then-text-i-eq10
-returns-then-text-i-eq10 c =
-    let text = c.args.text.now in
-    seek_hit (λ k. eqb (get_or text k 0) 10) (length text) c.loop-i.i _ c.loop-i.invariant (omega arith) (eq-eqb _ _ c.if-text-i-eq10.true)
-
-pub loop-i-preserved : goal.loop-i-preserved
-loop-i-preserved c =
-    let text = c.args.text.now in
-    seek-miss (λ k. eqb (get_or text k 0) 10) (length text) c.loop-i.i _ c.loop-i.invariant (omega arith) (ne_eqb _ _ c.if-text-i-eq10.false)
 
 pub returns : goal.returns
 returns c =
     let text = c.args.text.now in
-    seek-none (λ k. eqb (get_or text k 0) 10) (length text) c.loop-i.i _ c.loop-i.invariant (omega arith)
+    let start = c.args.start in
+    let rest = c.unwrap_or-rest.result.now in
+    let is : rest ≡ drop start text = grind (arith, common_steps) in
+    ap (λ k. start + k)
+    (c.unwrap_or.ensures
+    ∙ ap (λ o. unwrap_or o (length rest)) (position_from_yields_List (λ x. eqb x 10) _ _ _ c.position.ensures.ran (YieldsList-from_slice rest cc) (λ x b q k. search (rules, tests)))
+    ∙ place-or-end (λ x. eqb x 10) rest)
+    ∙ stop_part text start rest is

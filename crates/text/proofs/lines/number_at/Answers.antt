@@ -18,5 +18,5 @@ pub returns : goal.returns
 unfolding number_at
 returns c =
     let a = c.args in
-    c.value_of.ensures
+    c.from_be_bytes.ensures
     ∙ ap₂ (λ h l. h * 256 + l) c.byte_at.ensures (c.byte_at-2.ensures ∙ ap (byte_at a.line.now) (add-one a.k))
