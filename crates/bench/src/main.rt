@@ -27,16 +27,14 @@ fn main(rt: HostRuntime) {
     let mut text = [0u8; SHEET + 1];
     let mut cells = [Plan::BLANK; CELLS];
     let mut out = [0u8; OUTPUT];
-    let arrival = read_sheet(rt.stdin(), &mut text);
-    if arrival.failed {
+    let Ok(length) = read_sheet(rt.stdin(), &mut text) else {
         let _ = rt
             .stderr()
             .write_all(b"bench: a read from standard input failed\n");
         return;
-    }
-    let length = arrival.count;
-    let k = print_sheet(&text[0..length], &mut cells, &mut out);
-    if rt.stdout().write_all(&out[0..k]).is_err() {
+    };
+    let k = print_sheet(&text[..length], &mut cells, &mut out);
+    if rt.stdout().write_all(&out[..k]).is_err() {
         let _ = rt
             .stderr()
             .write_all(b"bench: a write to standard output failed\n");

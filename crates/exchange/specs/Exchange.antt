@@ -5,22 +5,17 @@ use Rattle.sheet.specs.Sheet.{Frame}
 use Rattle.finding.specs.Frames.{Rising}
 use Rattle.stage.specs.Stage.{Stage, Roomy, board_on, on_stage}
 use Rattle.outgoing.specs.Outgoing.{frame_from}
-use Rattle.hearing.specs.Hearing.{Framed, hear_from}
+use Rattle.hearing.specs.Hearing.{hear_from}
 
--- At most seven boards, each one's part lies within the cells, and the frame lines from `from` on rise.
-pub record Ready (h : Head) (cells text : List ℕ) (from : ℕ) : Type 0 where
+-- At most seven boards, each one's part lies within the cells, and the frame lines rise.
+pub record Ready (h : Head) (cells frames : List ℕ) : Type 0 where
   pub roomy : Roomy h cells
-  pub rising : Rising text from
+  pub rising : Rising frames
 
 -- What hearing board q asks: the same, for a board below n.
-pub record ReadyFor (h : Head) (cells text : List ℕ) (from q : ℕ) : Type 0 where
-  pub ready : Ready h cells text from
+pub record ReadyFor (h : Head) (cells frames : List ℕ) (q : ℕ) : Type 0 where
+  pub ready : Ready h cells frames
   pub sender : q < h.plan.n
-
--- What hearing a frame asks: the same, and a frame in its buffer.
-pub record ReadyWith (h : Head) (cells text : List ℕ) (from own : ℕ) (frame : List ℕ) : Type 0 where
-  pub ready : Ready h cells text from
-  pub framed : Framed own frame
 
 -- Every board hears board q.
 unfoldable pub hear_sender : Head → List Frame → ℕ → Stage → Stage

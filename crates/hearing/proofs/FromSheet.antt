@@ -1,7 +1,7 @@
 -- A frame of the sheet, read into a buffer with room for every frame and one byte, is heard as it stands in the sheet.
 -- Assumes nothing.
-use Prim.Native.Nat.{ℕ, ◌-◌, ◌≤◌}
-use mathlib.Core.Path.{◌≡◌, sym, ap, ap₂, ◌∙◌}
+use Prim.Native.Nat.{ℕ, ◌≤◌}
+use mathlib.Core.Path.{◌≡◌, sym, ap, ◌∙◌}
 use mathlib.Core.List.{List}
 use mathlib.Core.Option.{Option, some}
 use native.Mathlib.Omega.{arith}
@@ -14,37 +14,36 @@ use Rattle.protocol.specs.Calls.{receiving}
 use Rattle.protocol.specs.Session.{hand_in}
 use Rattle.sheet.specs.Playing.{decoded}
 use Rattle.protocol.proofs.Few.{overlong}
-use Rattle.fetching.specs.declared.fetching.Found.{Found}
-use Rattle.fetching.specs.declared.fetching.Found.TheVariants.{Missing, Bytes}
+use Rattle.std.specs.Prelude as Std
 use Rattle.fetching.specs.Fetched.{Read, found_says, read_length, read_into}
 use Rattle.fetching.proofs.FetchedFrame.{read_taken, read-frame-is, read-missed}
 
 -- With what the code has in hand: the buffer as it came, the answer, and the buffer with what was read.
-module _ (v : Option (List ℕ)) (buffer : List ℕ) (room : length buffer ≡ frame_room current) (found : Found) (last : List ℕ)
+module _ (v : Option (List ℕ)) (buffer : List ℕ) (room : length buffer ≡ frame_room current) (found : Std.Option ℕ) (last : List ℕ)
     (read : record { count = found_says found; buffer = last } ≡ read_into v buffer) where
   count-is : found_says found ≡ read_length v (frame_room current)
   count-is = ap (λ (x : Read). x.count) read ∙ ap (read_length v) room
 
-  bytes-are : (k : ℕ) → found ≡ Bytes k → some k ≡ read_length v (frame_room current)
+  bytes-are : (k : ℕ) → found ≡ Std.Some k → some k ≡ read_length v (frame_room current)
   unfolding found_says
   bytes-are k e = ap found_says (sym e) ∙ count-is
 
-  pub read-missing : (q : ℕ) (b : Board) → found ≡ Missing → b ≡ hand_in q (decoded current v) b
+  pub read-missing : (q : ℕ) (b : Board) → found ≡ Std.None → b ≡ hand_in q (decoded current v) b
   unfolding hand_in decoded found_says
   read-missing q b e =
       let none_read = ap found_says (sym e) ∙ count-is in
       ap (λ x. hand_in q (decoded current x) b) (sym (read-missed v (frame_room current) (sym none_read)))
 
-  pub read_fits : (k : ℕ) → found ≡ Bytes k → k ≤ frame_room current
+  pub read_fits : (k : ℕ) → found ≡ Std.Some k → k ≤ frame_room current
   read_fits k e = let (vs, _, z) = read-frame-is v (frame_room current) k (sym (bytes-are k e)) in omega (arith, z)
 
-  pub read-heard : (k q : ℕ) (r : Record) (cells : List ℕ) → found ≡ Bytes k
-      → (receiving (board_with r cells) q (take (k - 0) last)).board ≡ hand_in q (decoded current v) (board_with r cells)
+  pub read-heard : (k q : ℕ) (r : Record) (cells : List ℕ) → found ≡ Std.Some k
+      → (receiving (board_with r cells) q (take k last)).board ≡ hand_in q (decoded current v) (board_with r cells)
   unfolding hand_in decoded receiving
   read-heard k q r cells e =
       let b : Board = board_with r cells in
       let taken = sym (bytes-are k e) in
       let (vs, x, _) = read-frame-is v (frame_room current) k taken in
-      let whole : take (k - 0) last ≡ take (frame_room current) vs =
-      ap₂ take (let z : k - 0 ≡ k = omega arith in z) (ap (λ (y : Read). y.buffer) read) ∙ read_taken v vs buffer (frame_room current) k x room taken in
+      let whole : take k last ≡ take (frame_room current) vs =
+      ap (λ (y : Read). take k y.buffer) read ∙ read_taken v vs buffer (frame_room current) k x room taken in
       ap (λ f. (receiving b q f).board) whole ∙ ap (λ y. y.board) (overlong b q vs) ∙ ap (λ x. hand_in q (decoded current x) b) (sym x)

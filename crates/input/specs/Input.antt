@@ -1,8 +1,8 @@
--- What an answer of the C function `read` says.
-use Rattle.std.specs.Prelude.{true, false, ℤ, pos, negsuc}
-use Rattle.input.specs.declared.input.Arrival.{Arrival}
+-- What comes of a read.
+use Rattle.std.specs.Prelude.{ℕ, zero, suc, Result, Ok, Err, Option, Some, None}
 
--- A negative answer is an error; any other is the number of bytes that came, 0 at the end of the input.
-unfoldable pub arrival : ℤ → Arrival
-arrival (pos k) = record { failed = false; count = k }
-arrival (negsuc k) = record { failed = true; count = 0 }
+-- An error stays one; no bytes are the end of the input, any others have come.
+unfoldable pub arrival : {E : Type 0} → Result ℕ E → Result (Option ℕ) E
+arrival (Ok zero) = Ok None
+arrival (Ok (suc k)) = Ok (Some (suc k))
+arrival (Err e) = Err e

@@ -9,7 +9,6 @@ ghost use Rattle.outgoing.specs.Outgoing.{dealt_frame, frame_from, healthy_frame
 use codec::value::Value;
 use dealing::dealing::deal;
 use levels::levels::cell_count;
-use protocol::answers::{Dealt, Sent};
 use protocol::records::Record;
 use sending::sending::send;
 use sets::boards::member;
@@ -20,14 +19,12 @@ fn dealer_frame(head: Head, frame: &mut [u8]) -> usize
     requires { value_size current ≤ length frame.old }
     ensures { Written result (value_size current) frame.new (dealt_frame head) }
 {
-    let plan = head.plan;
-    match deal(plan, head.word) {
-        Dealt::Frame(high, low) => {
-            frame[0] = high;
-            frame[1] = low;
+    match deal(head.plan, head.word) {
+        Ok(bytes) => {
+            frame[..2].copy_from_slice(&bytes);
             2
         }
-        Dealt::Refused(_) => 0,
+        Err(_) => 0,
     }
 }
 
@@ -36,14 +33,10 @@ fn frame_of(head: Head, q: u8, r: Record, cells: &[Value], frame: &mut [u8]) -> 
     requires { frame.old ≡ replicate (frame_room current) 0 }
     ensures { Written result (frame_room current) frame.new (frame_from head q (board_with r cells.now)) }
 {
-    let dealer = head.plan.dealer;
-    if q == dealer {
+    if q == head.plan.dealer {
         return dealer_frame(head, frame);
     }
-    match send(r, cells, frame) {
-        Sent::Length(k) => k,
-        Sent::Refused(_) => 0,
-    }
+    send(r, cells, frame).unwrap_or(0)
 }
 
 // The frame of board q, by its record and its part of the cells; its length, 0 if q is faulty.
@@ -61,8 +54,7 @@ pub fn sender_frame(
         return 0;
     }
     let size = cell_count(head.plan.n);
-    let a = q as usize * size;
-    let e = a + size;
-    let r = records[q as usize];
-    frame_of(head, q, r, &cells[a..e], frame)
+    let place = usize::from(q);
+    let at = place * size;
+    frame_of(head, q, records[place], &cells[at..at + size], frame)
 }

@@ -1,17 +1,16 @@
 -- A whole sheet: what the code has in hand is what playing leaves.
 -- Assumes nothing.
 use Prim.Native.Nat.{ℕ, zero, suc, ◌+◌, ◌≤◌, ◌<◌}
-use mathlib.Core.Path.{◌≡◌, refl, sym, ap, ap₂, ◌∙◌}
+use mathlib.Core.Path.{◌≡◌, refl, ap, ap₂, ◌∙◌}
 use mathlib.Core.Logic.{◌≢◌}
-use mathlib.Core.Bool.{true, cond}
+use mathlib.Core.Bool.{true}
 use mathlib.Core.List.{List, [], ◌∷◌, ◌++◌}
 use native.Mathlib.Omega.{arith}
-use lib.Dec.{eqb}
 use lib.ListN.{length, get_or, drop, replicate}
 use borrow.Author.Tests.{eq-eqb, ne_eqb, lt-ltb, le-ltb}
 use Rattle.codec.specs.Codec.{current}
 use Rattle.schedule.specs.Schedule.{steps}
-use Rattle.refusals.specs.Outcome.{Outcome, taken, refused, verdict}
+use Rattle.refusals.specs.Outcome.{Outcome, taken, refused}
 use Rattle.protocol.specs.Limits.{sheet_most, output_needed, cells_needed}
 use Rattle.protocol.specs.declared.records.Record.{Record}
 use Rattle.protocol.specs.Calls.{void_record}
@@ -21,8 +20,6 @@ use Rattle.sheet.specs.Sheet.{Frame, wrong_at, reading}
 use Rattle.sheet.specs.Playing.{setting, final_boards, print_boards, Play, refused_play, play_head, playing}
 use Rattle.sheet.proofs.Sheets.{GoodHead, few-boards, sheet-head, sheet-sound, parts-most}
 use Rattle.text.proofs.LineEnds.{stop}
-use Rattle.judging_frames.specs.declared.lines.Judged.{Judged}
-use Rattle.judging_frames.specs.Lines.{judged_says}
 use Rattle.reader.proofs.Accepted.{sheet-rising}
 use Rattle.printer.specs.Printed.{board_lines}
 use Rattle.printer.proofs.BoardLines.{lines-played}
@@ -47,7 +44,7 @@ module _ (text cells out : List ℕ) (ok : (reading current text).answer.number 
   abbrev good : GoodHead h
   good = sheet-head current text ok
 
-  pub head-ready : Ready h cells text (stop text 0 + 1)
+  pub head-ready : Ready h cells (drop (stop text 0 + 1) text)
   head-ready =
       let few = few-boards h good in
       record { roomy = record { few = few; room = omega (arith, parts-most h.plan.n few) }; rising = sheet-rising text ok }
@@ -100,14 +97,3 @@ module _ (text cells out : List ℕ) where
     unfolding playing
     sheet-accepted e =
         rw (le-ltb sheet_most (length text) a, le-ltb (length out) (output_needed current) b, le-ltb (length cells) cells_needed c, eq-eqb (reading current text).answer.number 0 e) refl
-
--- The verdict on a sheet.
-module _ (j : Judged) (text : List ℕ) (e : judged_says j ≡ (reading current text).answer) where
-  pub judged-refused : (o : Outcome) → o ≡ verdict j.verdict → o.number ≢ 0 → wrong_at j.line o ≡ (reading current text).answer
-  unfolding judged_says
-  judged-refused o eo ne = ap (wrong_at j.line) eo ∙ rw (ne_eqb (verdict j.verdict).number 0 (λ z. ne (ap (λ (x : Outcome). x.number) eo ∙ z))) at e
-
-  pub judged-accepted : taken [] ≡ verdict j.verdict → (reading current text).answer.number ≡ 0
-  unfolding judged_says
-  judged-accepted eo =
-      ap (λ (x : Outcome). x.number) (sym e ∙ ap (λ o. cond (eqb o.number 0) o (wrong_at j.line o)) (sym eo))

@@ -6,7 +6,7 @@ ghost use Rattle.protocol.specs.Limits.{line_length};
 ghost use Rattle.sheet.specs.Playing.{hex_value, printed};
 ghost use Rattle.printer.specs.Printed.{healthy_line, board_lines, at_front};
 
-use codec::value::{VALUE_SIZE, Value, high_byte, low_byte};
+use codec::value::{VALUE_SIZE, Value};
 use digits::writing::print_byte;
 use listing::listing::as_set;
 use protocol::limits::{LINE, OUTPUT};
@@ -20,8 +20,9 @@ fn print_value(out: &mut [u8], at: usize, v: Value)
     requires { at + 2 * value_size current ≤ length out.old }
     ensures { out.new ≡ sets out.old at (hex_value current v []) }
 {
-    print_byte(out, at, high_byte(v));
-    print_byte(out, at + 2, low_byte(v));
+    let [high, low] = v.to_be_bytes();
+    print_byte(out, at, high);
+    print_byte(out, at + 2, low);
 }
 
 // Where a line's decision stands, its list, its place, and its newline.
@@ -33,30 +34,46 @@ const PLACE: usize = LIST + 2;
 
 const NEWLINE: usize = LINE - 1;
 
-// A board's line: board, decision, list as a set, the list's place.
-fn print_line(out: &mut [u8], at: usize, board: u8, decision: Value, list: u8, place: u8)
-    requires { at + line_length current ≤ length out.old }
-    ensures { out.new ≡ sets out.old at (printed current board decision list place []) }
-{
-    print_byte(out, at, board);
-    print_value(out, at + DECISION, decision);
-    print_byte(out, at + LIST, list);
-    print_byte(out, at + PLACE, place);
-    out[at + NEWLINE] = 10;
+// A board's line: its number, its decision, its list as a set, and the list's place.
+#[derive(Clone, Copy)]
+struct Line {
+    board: u8,
+    decision: Value,
+    list: u8,
+    place: u8,
 }
 
-// The line of board i, which is outside F: the dealer has its own value, an empty list and place 0.
-fn print_board(head: Head, i: u8, r: Record, out: &mut [u8], at: usize)
-    requires { at + line_length current ≤ length out.old }
-    ensures { out.new ≡ sets out.old at (healthy_line head i r []) }
-{
-    let dealer = head.plan.dealer;
-    if i == dealer {
-        print_line(out, at, i, head.word, 0, 0);
-    } else {
-        let list = r.list;
-        let set = as_set(list);
-        print_line(out, at, i, r.decision, set, held_at(head.plan, set));
+impl Line {
+    // The line of board i, which is outside F: the dealer has its own value, an empty list and place 0.
+    fn of(head: Head, i: u8, r: Record) -> Line
+        ensures { printed current result.board result.decision result.list result.place [] ≡ healthy_line head i r [] }
+    {
+        if i == head.plan.dealer {
+            return Line {
+                board: i,
+                decision: head.word,
+                list: 0,
+                place: 0,
+            };
+        }
+        let list = as_set(r.list);
+        Line {
+            board: i,
+            decision: r.decision,
+            list,
+            place: held_at(head.plan, list),
+        }
+    }
+
+    fn print(self, out: &mut [u8], at: usize)
+        requires { at + line_length current ≤ length out.old }
+        ensures { out.new ≡ sets out.old at (printed current self.board self.decision self.list self.place []) }
+    {
+        print_byte(out, at, self.board);
+        print_value(out, at + DECISION, self.decision);
+        print_byte(out, at + LIST, self.list);
+        print_byte(out, at + PLACE, self.place);
+        out[at + NEWLINE] = 10;
     }
 }
 
@@ -71,15 +88,12 @@ pub fn print_boards(head: Head, records: [Record; 7], out: &mut [u8]) -> usize
     if out.len() < OUTPUT {
         return 0;
     }
-    let mut used: usize = 0;
-    let mut i: u8 = 0;
-    while i < n {
-        let r = records[i as usize];
+    let mut used = 0;
+    for i in 0..n {
         if !member(head.faulty, i) {
-            print_board(head, i, r, out, used);
+            Line::of(head, i, records[usize::from(i)]).print(out, used);
             used += LINE;
         }
-        i += 1;
     }
     used
 }

@@ -15,8 +15,8 @@ use Rattle.sets.proofs.Tests.{cases}
 use Rattle.refusals.specs.Outcome.{Outcome, refused, refusal}
 use Rattle.refusals.proofs.Outcomes.{refusal-number}
 use Rattle.protocol.specs.Limits.{sheet_most, output_needed, cells_needed}
-use Rattle.protocol.specs.declared.answers.Played.{Played}
-use Rattle.protocol.specs.declared.answers.Played.TheVariants.{Written, Refused}
+use Rattle.std.specs.Prelude.{Result, Ok, Err}
+use Rattle.protocol.specs.declared.answers.Refused.{Refused}
 use Rattle.protocol.specs.Answers.{played_says}
 use Rattle.sheet.specs.Sheet.{wrong_at, reading}
 use Rattle.sheet.specs.Playing.{Play, playing, play_head, refused_play, final_boards, print_boards, refusal_text, bench_prints}
@@ -76,28 +76,28 @@ abbrev pub shown : Output → List ℕ
 shown o = take o.count o.out
 
 -- What the program prints, for an answer that says what playing says.
-pub bench-prints : (text cells out out₁ : List ℕ) (a : Played) → 9 ≤ length out
+pub bench-prints : (text cells out out₁ : List ℕ) (a : Result ℕ Refused) → 9 ≤ length out
     → played_says a ≡ (playing current text cells out).answer → out₁ ≡ (playing current text cells out).out
     → shown (reported a out₁) ≡ bench_prints current text cells out
 unfolding played_says
-bench-prints text cells out out₁ (Written k) l e eo =
+bench-prints text cells out out₁ (Ok k) l e eo =
     let p = playing current text cells out in
     let fits = playing-fits text cells out in
     let number : 0 ≡ p.answer.number = ap (λ o. o.number) e in
     let values : k ≡ first p.answer = ap first e in
-    let written = report-written (Written k) k out₁ refl (let z : k ≤ length out₁ = omega (arith, fits.holds (sym number), ap length eo) in z) in
+    let written = report-written (Ok k) k out₁ refl (let z : k ≤ length out₁ = omega (arith, fits.holds (sym number), ap length eo) in z) in
     sym (ap shown written) ∙ ap₂ take values eo ∙ sym (prints-lines text cells out (sym number))
-bench-prints text cells out out₁ (Refused why line) l e eo =
+bench-prints text cells out out₁ (Err r) l e eo =
     let p = playing current text cells out in
     let fits = playing-fits text cells out in
-    let number : (refusal why).number ≡ p.answer.number = ap (λ o. o.number) e in
-    let values : line ≡ first p.answer = ap first e in
+    let number : (refusal r.why).number ≡ p.answer.number = ap (λ o. o.number) e in
+    let values : r.line ≡ first p.answer = ap first e in
     let room : 9 ≤ length out₁ = omega (arith, fits.room, ap length eo) in
-    let text' = refusal_text (refusal why).number line in
-    ap shown (refused-front why line out₁ room)
+    let text' = refusal_text (refusal r.why).number r.line in
+    ap shown (refused-front r out₁ room)
     ∙ take_at text' (drop (length text') out₁) (length text') refl
     ∙ ap₂ refusal_text number values
-    ∙ sym (prints-refusal text cells out (λ z. refusal-number why (number ∙ z)))
+    ∙ sym (prints-refusal text cells out (λ z. refusal-number r.why (number ∙ z)))
 
 -- An answer that is a refusal.
 abbrev Refuses : Play → Type 0
@@ -115,14 +115,14 @@ short-refuses text cells out l =
     (λ e. refuses-cond (ltb (length out) (output_needed current)) _ _ (λ e z. absurd (omega arith)) (λ e. absurd (omega (arith, ltb-false (length out) (output_needed current) e))))
 
 -- Nothing is reported where a refusal does not fit.
-short-length : (a : Played) (text cells out out₁ : List ℕ) → length out < 9 → length out₁ ≡ length out
+short-length : (a : Result ℕ Refused) (text cells out out₁ : List ℕ) → length out < 9 → length out₁ ≡ length out
     → played_says a ≡ (playing current text cells out).answer → (reported a out₁).count ≡ 0
 unfolding played_says reported
-short-length (Written k) text cells out out₁ l el e = absurd (short-refuses text cells out (omega arith) (sym (ap (λ o. o.number) e)))
-short-length (Refused why line) text cells out out₁ l el e = rw (lt-ltb (length out₁) 9 (omega arith)) refl
+short-length (Ok k) text cells out out₁ l el e = absurd (short-refuses text cells out (omega arith) (sym (ap (λ o. o.number) e)))
+short-length (Err r) text cells out out₁ l el e = rw (lt-ltb (length out₁) 9 (omega arith)) refl
 
 -- The same for an output of any length.
-pub sheet-prints : (a : Played) (text cells out out₁ : List ℕ) → length out₁ ≡ length out
+pub sheet-prints : (a : Result ℕ Refused) (text cells out out₁ : List ℕ) → length out₁ ≡ length out
     → played_says a ≡ (playing current text cells out).answer → out₁ ≡ (playing current text cells out).out
     → shown (reported a out₁) ≡ cond (ltb (length out) 9) [] (bench_prints current text cells out)
 sheet-prints a text cells out out₁ el e eo =

@@ -9,50 +9,49 @@ use lib.ListN.{length}
 use lib.Seq.{sets}
 use borrow.Author.Tests.{lt-ltb, le-ltb, ltb-false}
 use Rattle.sets.proofs.Tests.{cases}
-use Rattle.refusals.specs.declared.refusal.Refusal.{Refusal}
 use Rattle.refusals.specs.Outcome.{refusal}
-use Rattle.protocol.specs.declared.answers.Played.{Played}
-use Rattle.protocol.specs.declared.answers.Played.TheVariants.{Written, Refused}
+use Rattle.std.specs.Prelude.{Result, Ok, Err}
+use Rattle.protocol.specs.declared.answers.Refused.{Refused}
 use Rattle.sheet.specs.Playing.{refusal_text}
 use Rattle.printer.specs.Printed.{at_front}
 use Rattle.reports.specs.Reported.{reported}
 use Rattle.printer.proofs.Stores.{stores-first}
 use Rattle.reports.proofs.Refusals.{refusal-size}
 
-pub report-over : (a : Played) (k : ℕ) (out : List ℕ) → a ≡ Written k → length out < k → record { count = 0; out = out } ≡ reported a out
+pub report-over : (a : Result ℕ Refused) (k : ℕ) (out : List ℕ) → a ≡ Ok k → length out < k → record { count = 0; out = out } ≡ reported a out
 unfolding reported
 report-over a k out e l = rw (e, lt-ltb (length out) k l) refl
 
-pub report-written : (a : Played) (k : ℕ) (out : List ℕ) → a ≡ Written k → k ≤ length out → record { count = k; out = out } ≡ reported a out
+pub report-written : (a : Result ℕ Refused) (k : ℕ) (out : List ℕ) → a ≡ Ok k → k ≤ length out → record { count = k; out = out } ≡ reported a out
 unfolding reported
 report-written a k out e l = rw (e, le-ltb (length out) k l) refl
 
-pub report-short : (a : Played) (why : Refusal) (line : ℕ) (out : List ℕ) → a ≡ Refused why line → length out < 9
+pub report-short : (a : Result ℕ Refused) (r : Refused) (out : List ℕ) → a ≡ Err r → length out < 9
     → record { count = 0; out = out } ≡ reported a out
 unfolding reported
-report-short a why line out e l = rw (e, lt-ltb (length out) 9 l) refl
+report-short a r out e l = rw (e, lt-ltb (length out) 9 l) refl
 
 -- A refusal stands at the front of the output.
-pub refused-front : (why : Refusal) (line : ℕ) (out : List ℕ) → 9 ≤ length out
-    → reported (Refused why line) out ≡ at_front (refusal_text (refusal why).number line) out
+pub refused-front : (r : Refused) (out : List ℕ) → 9 ≤ length out
+    → reported (Err r) out ≡ at_front (refusal_text (refusal r.why).number r.line) out
 unfolding reported
-refused-front why line out l = rw (le-ltb (length out) 9 l) refl
+refused-front r out l = rw (le-ltb (length out) 9 l) refl
 
-pub report-refused : (a : Played) (why : Refusal) (line number : ℕ) (out last : List ℕ) → a ≡ Refused why line → 9 ≤ length out
-    → number ≡ (refusal why).number → last ≡ sets out 0 (refusal_text number line) → record { count = 9; out = last } ≡ reported a out
-report-refused a why line number out last e l en el =
-    let text = refusal_text number line in
-    let size = refusal-size number line in
+pub report-refused : (a : Result ℕ Refused) (r : Refused) (number : ℕ) (out last : List ℕ) → a ≡ Err r → 9 ≤ length out
+    → number ≡ (refusal r.why).number → last ≡ sets out 0 (refusal_text number r.line) → record { count = 9; out = last } ≡ reported a out
+report-refused a r number out last e l en el =
+    let text = refusal_text number r.line in
+    let size = refusal-size number r.line in
     ap₂ (λ k o. record { count = k; out = o }) (sym size) (el ∙ stores-first out text (omega arith))
-    ∙ ap (λ k. at_front (refusal_text k line) out) en
-    ∙ sym (ap (λ x. reported x out) e ∙ refused-front why line out l)
+    ∙ ap (λ k. at_front (refusal_text k r.line) out) en
+    ∙ sym (ap (λ x. reported x out) e ∙ refused-front r out l)
 
 -- What is printed lies within the output.
-pub report-fits : (a : Played) (out : List ℕ) → (reported a out).count ≤ length out
+pub report-fits : (a : Result ℕ Refused) (out : List ℕ) → (reported a out).count ≤ length out
 unfolding reported
-report-fits (Written k) out =
+report-fits (Ok k) out =
     cases (ltb (length out) k) (λ e. rw e (omega arith)) (λ e. rw e (ltb-false (length out) k e))
-report-fits (Refused why line) out =
+report-fits (Err r) out =
     cases (ltb (length out) 9)
     (λ e. rw e (omega arith))
-    (λ e. rw e (omega (arith, ltb-false (length out) 9 e, refusal-size (refusal why).number line)))
+    (λ e. rw e (omega (arith, ltb-false (length out) 9 e, refusal-size (refusal r.why).number r.line)))

@@ -34,12 +34,11 @@ use Rattle.protocol.proofs.Judgement.{Open, open-taken}
 use Rattle.protocol.proofs.Few.{sends, unsent}
 use Rattle.protocol.proofs.Taken.{sending-gives}
 use Rattle.sheet.proofs.Sheets.{GoodHead, few-boards, parts-most, part_length}
-use Rattle.stage.specs.declared.acting.Act.TheVariants.{Begin, Close}
-use Rattle.stage.specs.Stage.{Stage, no_record, board_on, keeps, acted, put_board, on_stage}
+use Rattle.stage.specs.Stage.{Stage, no_record, board_on, keeps, put_board, on_stage}
 use Rattle.outgoing.specs.Outgoing.{dealt_frame, frame_from}
 use Rattle.hearing.specs.Hearing.{hear_from}
 use Rattle.exchange.specs.Exchange.{hear_sender, hear_senders}
-use Rattle.session.specs.Steps.{play_step, frames_left, play_steps}
+use Rattle.session.specs.Steps.{begins, closes, play_step, frames_left, play_steps}
 use Rattle.walk.proofs.Whole.{rounds-most}
 use Rattle.outgoing.proofs.Sender.{from-dealer, from-sender}
 use Rattle.hearing.proofs.Sender.{told-faulty, told-healthy}
@@ -215,15 +214,15 @@ module _ (h : Head) (good : GoodHead h) (cells₀ : List ℕ) (room : cells_need
       fits = λ i k. record { width = refl; size = part_length n i cells₀ few (kept-below i k) room };
     }
 
-    begin-is : (i : ℕ) → keeper s i ≡ true → acted h.plan Begin i (unbegun i) ≡ at s a 0 i
-    unfolding acted unbegun begun setting
+    begin-is : (i : ℕ) → keeper s i ≡ true → begins h.plan i (unbegun i) ≡ at s a 0 i
+    unfolding begins unbegun begun setting
     begin-is i k = sym (at-start s a i (kept-below i k))
 
     begun-holds : Holds (at s a 0) (played 0)
     unfolding play_steps
     begun-holds =
         holds_same _ (at s a 0) (played 0) begin-is
-        (acts-all unbegun start start-holds (acted h.plan Begin) (λ i k. fit_same _ _ (begin-is i k) (at-fits 0 i k (omega arith))))
+        (acts-all unbegun start start-holds (begins h.plan) (λ i k. fit_same _ _ (begin-is i k) (at-fits 0 i k (omega arith))))
 
     rounds-few : (rounds h.plan).0 ≤ 255
     unfolding setting
@@ -335,15 +334,15 @@ module _ (h : Head) (good : GoodHead h) (cells₀ : List ℕ) (room : cells_need
       heard-holds st x zero l = x
       heard-holds st x (suc q) l = sender-holds q (hear_senders h rest q st) l (heard-holds st x q (omega arith))
 
-      closed_is : (i : ℕ) → keeper s i ≡ true → acted h.plan Close i (heard n i) ≡ at s a (suc j) i
-      unfolding acted setting
+      closed_is : (i : ℕ) → keeper s i ≡ true → closes i (heard n i) ≡ at s a (suc j) i
+      unfolding closes setting
       closed_is i k = sym (at_next s a i j (kept-below i k))
 
       step-holds : Holds (at s a j) (played j) → Holds (at s a (suc j)) (played (suc j))
       unfolding play_steps play_step
       step-holds x =
           holds_same _ (at s a (suc j)) (played (suc j)) closed_is
-          (acts-all (heard n) (hear_senders h rest n (played j)) (heard-holds (played j) x n (omega arith)) (acted h.plan Close)
+          (acts-all (heard n) (hear_senders h rest n (played j)) (heard-holds (played j) x n (omega arith)) closes
           (λ i k. fit_same _ _ (closed_is i k) (at-fits (suc j) i k inside)))
 
     played-holds : (j : ℕ) → j ≤ steps h.plan → Holds (at s a j) (played j)

@@ -93,13 +93,13 @@ runs-byte p few =
         (λ x. omega (arith, ceil-none a b (eqb-true b 0 x)))
         (λ x. ceil-le a b (let ne = eqb-false b 0 x in omega arith))
 
-pub record Later (p : Plan) (last : Round) (j : ℕ) : Type 0 where
-  pub long : 2 ≤ last.0
-  pub run_fits : (j - 1) / (last.0 - 1) + 1 ≤ 255
-  pub round-fits : (j - 1) % (last.0 - 1) + 2 ≤ 255
-  pub key : key_of ((j - 1) / (last.0 - 1) + 1) ((j - 1) % (last.0 - 1) + 2) 0 0 ≡ step_key p j
+pub record Later (p : Plan) (last : ℕ) (j : ℕ) : Type 0 where
+  pub long : 2 ≤ last
+  pub run_fits : (j - 1) / (last - 1) + 1 ≤ 255
+  pub round-fits : (j - 1) % (last - 1) + 2 ≤ 255
+  pub key : key_of ((j - 1) / (last - 1) + 1) ((j - 1) % (last - 1) + 2) 0 0 ≡ step_key p j
 
-pub later : (p : Plan) (last : Round) (j : ℕ) → last ≡ rounds p → last.0 ≤ 255 → p.n ≤ 255 → 0 < j → j < steps p → Later p last j
+pub later : (p : Plan) (last : Round) (j : ℕ) → last ≡ rounds p → last.0 ≤ 255 → p.n ≤ 255 → 0 < j → j < steps p → Later p last.0 j
 later p last j e round few l inside =
     let h = step-has p (suc j) (omega arith) inside in
     let w = last.0 - 1 in

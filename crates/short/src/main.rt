@@ -5,7 +5,7 @@
 use codec::value::Value;
 use counting::counting::count_others;
 use playing::playing::play;
-use protocol::answers::Played;
+use protocol::answers::Refused;
 use protocol::limits::{CELLS, OUTPUT};
 use reports::reporting::report;
 use std::io;
@@ -17,7 +17,7 @@ const CELL: Value = 43690;
 const BYTE: u8 = 46;
 
 // Writes a refusal and the output that it left.
-fn show(mut stdout: Stdout, answer: Played, out: &[u8]) -> io::Result<()> {
+fn show(mut stdout: Stdout, answer: Result<usize, Refused>, out: &[u8]) -> io::Result<()> {
     let mut refusal = [0u8; 9];
     report(answer, &mut refusal);
     stdout.write_all(&refusal)?;
@@ -37,10 +37,6 @@ fn main(rt: HostRuntime) -> io::Result<()> {
     show(rt.stdout(), short, &short_out)?;
     let changed = count_others(&cells, CELL) + count_others(&few_cells, CELL);
     // A 9 means nine or more.
-    let mut digit: u8 = 57;
-    if changed < 9 {
-        digit = 48 + changed as u8;
-    }
-    let last = [digit, 10];
-    rt.stdout().write_all(&last)
+    let digit = 48 + changed.min(9) as u8;
+    rt.stdout().write_all(&[digit, 10])
 }

@@ -9,8 +9,6 @@ use Rattle.tree.specs.Places.{cell_count, count_within}
 use Rattle.tree.proofs.Parts.{parts_within}
 use Rattle.tree.proofs.Within.{count-within}
 use Rattle.sheet.specs.declared.head.Head.{Head}
-use Rattle.protocol.specs.Limits.{cells_needed}
-use Rattle.sheet.proofs.Sheets.{parts-most}
 use Rattle.stage.specs.Stage.{Roomy}
 
 module _ (h : Head) (cells : List ℕ) (r : Roomy h cells) (i c : ℕ) (size : c ≡ count_within h.plan.n) (below : i < h.plan.n) where
@@ -20,9 +18,4 @@ module _ (h : Head) (cells : List ℕ) (r : Roomy h cells) (i c : ℕ) (size : c
   pub part-inside : i * c + c ≤ length cells
   part-inside =
       let fits = subst (λ x. h.plan.n * x ≤ length cells) (sym count-is) r.room in
-      omega (arith, parts_within i h.plan.n c below)
-
-  pub part_small : i * c + c ≤ cells_needed
-  part_small =
-      let most = subst (λ x. h.plan.n * x ≤ cells_needed) (sym count-is) (parts-most h.plan.n r.few) in
       omega (arith, parts_within i h.plan.n c below)

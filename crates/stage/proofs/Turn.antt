@@ -6,7 +6,7 @@ use mathlib.Core.Bool.{true, false, cond}
 use mathlib.Core.List.{List, ◌++◌}
 use native.Mathlib.Numerals.{add-one}
 use native.Mathlib.Omega.{arith}
-use lib.ListN.{length, get_or, set, take, drop, length-append, length-take, length-drop}
+use lib.ListN.{get_or, set, take, drop}
 use lib.Seq.{drop-drop}
 use Rattle.tree.specs.Places.{cell_count}
 use Rattle.protocol.specs.declared.records.Record.{Record}
@@ -14,9 +14,6 @@ use Rattle.protocol.specs.Rounds.{board_with, Board}
 use Rattle.sheet.specs.Playing.{part, replace_part}
 use Rattle.sheet.specs.declared.head.Head.{Head}
 use Rattle.stage.specs.Stage.{Stage, no_record, board_on, keeps, put_board, on_stage}
-
-pub length-lent : (xs ys : List ℕ) (a k : ℕ) → length ys ≡ length (take k (drop a xs)) → length (take a xs ++ (ys ++ drop k (drop a xs))) ≡ length xs
-length-lent xs ys a k e = simp (length-append, e, length-drop, length-take) (omega arith)
 
 -- Boards that do the same leave the same.
 pub on_same : (h : Head) (f g : ℕ → Board → Board) → ((i : ℕ) (b : Board) → f i b ≡ g i b) → (k : ℕ) (st : Stage) → on_stage h f k st ≡ on_stage h g k st
@@ -58,9 +55,15 @@ module _ (h : Head) (f : ℕ → Board → Board) (t : Stage) (i : ℕ) where
         ∙ ap (λ k. record { recs = set recs i x; cells = take (i * k) cells ++ (ys ++ drop (i * k + k) cells) }) size
         ∙ ap (λ y. put_board h.plan.n i y (record { recs = recs; cells = cells })) e
 
-    pub turn : ◌≡◌ {A = Stage} (record { recs = recs; cells = cells }) (on_stage h f i t) → keeps h i ≡ true
+    turn : ◌≡◌ {A = Stage} (record { recs = recs; cells = cells }) (on_stage h f i t) → keeps h i ≡ true
         → board_with x ys ≡ f i lent → left ≡ on_stage h f (i + 1) t
     turn e k acts =
         let b = f i (board_on h.plan.n (record { recs = recs; cells = cells }) i) in
         left_is b (acts ∙ ap (f i) lent_is)
         ∙ turn-kept (record { recs = recs; cells = cells }) e k
+
+-- The same where the code counts the part of board i by another number that is i.
+pub turn-at : (h : Head) (f : ℕ → Board → Board) (t : Stage) (i place : ℕ) (recs : List Record) (cells : List ℕ) (c : ℕ) (size : c ≡ cell_count h.plan.n) (x : Record) (ys : List ℕ)
+    → place ≡ i → ◌≡◌ {A = Stage} (record { recs = recs; cells = cells }) (on_stage h f i t) → keeps h i ≡ true
+    → board_with x ys ≡ f i (lent h f t place recs cells c size x ys) → left h f t place recs cells c size x ys ≡ on_stage h f (i + 1) t
+turn-at h f t i place recs cells c size x ys e before k = rw e (turn h f t i recs cells c size x ys before k)

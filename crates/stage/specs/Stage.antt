@@ -1,16 +1,11 @@
 -- All boards of a session, and what they do in turn. A middle layer: what boards do is `session` of the protocol.
 use Rattle.std.specs.Prelude.{ℕ, zero, suc, ◌*◌, ◌≤◌, Bool, false, not, ◌&&◌, cond, List, [], eqb, length, get_or, set}
-use Rattle.codec.specs.Codec.{current}
 use Rattle.sets.specs.Sets.{member}
-use Rattle.plan.specs.declared.plan.Plan.{Plan}
 use Rattle.tree.specs.Places.{cell_count}
 use Rattle.protocol.specs.declared.records.Record.{Record}
 use Rattle.protocol.specs.Rounds.{board_with, Board}
 use Rattle.sheet.specs.declared.head.Head.{Head}
-use Rattle.protocol.specs.Calls.{beginning, closing}
 use Rattle.sheet.specs.Playing.{part, replace_part}
-use Rattle.stage.specs.declared.acting.Act.{Act}
-use Rattle.stage.specs.declared.acting.Act.TheVariants.{Begin, Close}
 
 -- The records of all boards, and the buffer with their cells.
 pub record Stage : Type 0 where
@@ -53,11 +48,3 @@ on_stage h f (suc k) st =
     let before = on_stage h f k st in
     let next = put_board h.plan.n k (f k (board_on h.plan.n before k)) before in
     cond (keeps h k) next before
-
--- What board i does: begin, or close.
-unfoldable pub acted : Plan → Act → ℕ → Board → Board
-acted p Begin i b = (beginning current p i b.cells).board
-acted p Close i b = (closing b).board
-
-abbrev pub act_all : Head → Act → ℕ → Stage → Stage
-act_all h act k st = on_stage h (acted h.plan act) k st

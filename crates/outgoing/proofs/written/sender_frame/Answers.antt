@@ -9,31 +9,31 @@ use Rattle.stage.proofs.Room.{count-is, part-inside}
 use Rattle.outgoing.specs.Outgoing.{frame_from}
 use Rattle.outgoing.proofs.Sender.{board-lent, none-faulty, frame-healthy}
 use Rattle.outgoing.proofs.written.sender_frame.Goals as goal
-use Rattle.outgoing.proofs.written.sender_frame.Goals.{After-cell_count-size}
+use Rattle.outgoing.proofs.written.sender_frame.Goals.{After-from-place}
 
 -- The board's part is within the cells.
-inside : (c : After-cell_count-size) → let a = c.args in
+inside : (c : After-from-place) → let a = c.args in
     let size = c.cell_count-size.result in
-    a.q * size + size ≤ length a.cells.now
+    c.from-place.result * size + size ≤ length a.cells.now
 inside c =
-    part-inside c.args.head c.args.cells.now c.requires.roomy c.args.q c.cell_count-size.result c.cell_count-size.ensures c.requires.sender
+    rw c.from-place.ensures (part-inside c.args.head c.args.cells.now c.requires.roomy c.args.q c.cell_count-size.result c.cell_count-size.ensures c.requires.sender)
 
 pub returns-then-member : goal.returns-then-member
 returns-then-member c =
     let a = c.args in
     record { fits = omega arith; front = none-faulty a.head a.q _ (sym c.member.ensures ∙ c.if-member.true) }
 
-pub overflow_mul-a : goal.overflow_mul-a
-overflow_mul-a c = record { fits = omega (arith, inside c) }
+pub overflow_mul-at : goal.overflow_mul-at
+overflow_mul-at c = record { fits = omega (arith, inside c) }
 
-pub overflow_add-e : goal.overflow_add-e
-overflow_add-e c = record { fits = omega (arith, inside c) }
+pub overflow_add-at : goal.overflow_add-at
+overflow_add-at c = record { fits = omega (arith, inside (goal.at.overflow_add-at c).After-from-place) }
 
-pub offset_bounds-cells-a : goal.offset_bounds-cells-a
-offset_bounds-cells-a c = search (rules, inside (goal.at.offset_bounds-cells-a c).After-cell_count-size)
+pub offset_bounds-cells-at : goal.offset_bounds-cells-at
+offset_bounds-cells-at c = search (rules, inside (goal.at.offset_bounds-cells-at c).After-from-place)
 
 pub slice_bounds-frame_of-end : goal.slice_bounds-frame_of-end
-slice_bounds-frame_of-end c = omega (arith, inside (goal.at.slice_bounds-frame_of-end c).After-cell_count-size)
+slice_bounds-frame_of-end c = omega (arith, inside (goal.at.slice_bounds-frame_of-end c).After-from-place)
 
 pub returns : goal.returns
 returns c =
@@ -45,6 +45,6 @@ returns c =
     let healthy = sym c.member.ensures ∙ c.if-member.false in
     record {
       fits = frame.fits;
-      front = frame.front ∙ ap (frame_from a.head a.q) (board-lent a.head a.q st size.result is-size)
+      front = (rw c.from-place.ensures at frame.front) ∙ ap (frame_from a.head a.q) (board-lent a.head a.q st size.result is-size)
           ∙ sym (frame-healthy a.head a.q (board_on a.head.plan.n st a.q) healthy);
     }

@@ -23,20 +23,20 @@ pub loop-i-init : goal.loop-i-init
 loop-i-init c =
     let a = c.args in
     let none = lines_none a.head (boards_of a.records) in
-    (omega arith, sym (ap length none), sym (ap (sets a.out.now 0) none))
+    (sym (ap length none), sym (ap (sets a.out.now 0) none))
 
-pub print_board-requires : goal.print_board-requires
-print_board-requires c =
+pub print-requires : goal.print-requires
+print-requires c =
     let l = c.loop-i in
     let a = c.args in
     let text = print_boards current a.head (boards_of a.records) 0 l.i in
-    omega (arith, l.invariant.1, print-short a.head (boards_of a.records) l.i, ap length l.invariant.2, length-sets a.out.now 0 text)
+    omega (arith, l.invariant.0, print-short a.head (boards_of a.records) l.i, ap length l.invariant.1, length-sets a.out.now 0 text)
 
 pub overflow_add-used : goal.overflow_add-used
 overflow_add-used c =
     let l = c.loop-i in
     let a = c.args in
-    record { fits = omega (arith, l.invariant.1, print-short a.head (boards_of a.records) l.i) }
+    record { fits = omega (arith, l.invariant.0, print-short a.head (boards_of a.records) l.i) }
 
 pub loop-i-preserved : goal.loop-i-preserved
 loop-i-preserved c =
@@ -47,19 +47,19 @@ loop-i-preserved c =
     let seven : length a.records ≡ 7 = of-records.1.0.1 in
     elim c.if-not-member.branch [
       | then-not-member w ↦ let f : member l.i a.head.faulty ≡ false = sym c.member.ensures ∙ w.if-not-member.true in
-          let line = line-healthy a.head b l.i _ (record-there a.records l.i _ (omega arith)) f in
-          let (u, o) = one_more a.head b l.i l.used a.out.now l.out _ _ l.invariant.1 l.invariant.2 f line w.print_board.ensures in
-          (omega arith, w.used-is ∙ u, w.out-is ∙ o)
+          let line = line-healthy a.head b l.i _ (rw w.from.ensures (record-there a.records l.i _ (omega arith))) f in
+          let (u, o) = one_more a.head b l.i l.used a.out.now l.out _ _ l.invariant.0 l.invariant.1 f (w.of.ensures ∙ line) w.print.ensures in
+          (w.used-is ∙ u, w.out-is ∙ o)
       | else-not-member w ↦ let f : member l.i a.head.faulty ≡ true = sym c.member.ensures ∙ w.if-not-member.false in
           let e = none_more a.head b l.i f in
-          (omega arith, w.used-is ∙ l.invariant.1 ∙ ap length e, w.out-is ∙ l.invariant.2 ∙ ap (sets a.out.now 0) e)
+          (w.used-is ∙ l.invariant.0 ∙ ap length e, w.out-is ∙ l.invariant.1 ∙ ap (sets a.out.now 0) e)
     ]
 
 pub shape_of-out : goal.shape_of-out
 shape_of-out c =
     let a = c.args in
     let l = c.loop-i in
-    ap length l.invariant.2 ∙ length-sets a.out.now 0 (print_boards current a.head (boards_of a.records) 0 l.i)
+    ap length l.invariant.1 ∙ length-sets a.out.now 0 (print_boards current a.head (boards_of a.records) 0 l.i)
 
 pub returns : goal.returns
 returns c =
@@ -68,6 +68,6 @@ returns c =
     let text = print_boards current a.head (boards_of a.records) 0 l.i in
     let e : text ≡ board_lines a.head a.records a.out.now =
     ap (print_boards current a.head (boards_of a.records) 0) (let z : l.i ≡ a.head.plan.n = omega arith in z) ∙ sym (all_lines a.head a.records a.out.now (omega arith) (omega arith)) in
-    ap₂ (λ k o. record { count = k; out = o }) l.invariant.1
-    (l.invariant.2 ∙ stores-first a.out.now text (omega (arith, print-short a.head (boards_of a.records) l.i)))
+    ap₂ (λ k o. record { count = k; out = o }) l.invariant.0
+    (l.invariant.1 ∙ stores-first a.out.now text (omega (arith, print-short a.head (boards_of a.records) l.i)))
     ∙ ap (λ t. at_front t a.out.now) e

@@ -1,4 +1,3 @@
-use Prim.Native.Nat.{◌-◌, ◌≤◌}
 use mathlib.Core.Path.{◌≡◌}
 use lib.ListN.{length}
 use lib.Seq.{sets}
@@ -9,7 +8,4 @@ use Rattle.printer.proofs.printing.print_boards.Given as goal
 
 abbrev pub invariant-loop-i : goal.invariant-loop-i
 invariant-loop-i l = let text = print_boards current l.head (boards_of l.records) 0 l.i in
-    (l.i ≤ l.n) × (l.used ≡ length text) × (l.out ≡ sets l.initial.out 0 text)
-
-abbrev pub decreases-loop-i : goal.decreases-loop-i
-decreases-loop-i l = l.n - l.i
+    (l.used ≡ length text) × (l.out ≡ sets l.initial.out 0 text)

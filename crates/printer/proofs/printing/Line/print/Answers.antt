@@ -1,4 +1,4 @@
--- `print_line` meets its contract: board, decision, list, place and a newline, stored one after the other.
+-- `print` meets its contract: board, decision, list, place and a newline, stored one after the other.
 use Prim.Native.Nat.{◌+◌}
 use mathlib.Core.Path.{ap, ◌∙◌}
 use mathlib.Core.List.{[]}
@@ -8,7 +8,7 @@ use Rattle.codec.specs.Codec.{current}
 use Rattle.hexadecimal.specs.Hex.{hex_byte}
 use Rattle.sheet.specs.Playing.{hex_value}
 use Rattle.printer.proofs.Stores.{list_at, place_at, newline_at, line-stores}
-use Rattle.printer.proofs.printing.print_line.Goals as goal
+use Rattle.printer.proofs.printing.Line.print.Goals as goal
 
 pub shape_of-out : goal.shape_of-out
 shape_of-out c =
@@ -25,6 +25,6 @@ returns c =
     let third = c.print_byte-2.ensures in
     let second = c.print_value.ensures in
     let first = c.print_byte.ensures in
-    let listed = third ∙ ap (λ o. sets o (a.at + list_at current) (hex_byte a.list [])) (second ∙ ap (λ o. sets o (a.at + 2) (hex_value current a.decision [])) first) in
-    ap (λ o. set o (a.at + newline_at current) 10) (fourth ∙ ap (λ o. sets o (a.at + place_at current) (hex_byte a.place [])) listed)
-    ∙ line-stores current a.out.now a.at a.board a.decision a.list a.place
+    let listed = third ∙ ap (λ o. sets o (a.at + list_at current) (hex_byte a.self.list [])) (second ∙ ap (λ o. sets o (a.at + 2) (hex_value current a.self.decision [])) first) in
+    ap (λ o. set o (a.at + newline_at current) 10) (fourth ∙ ap (λ o. sets o (a.at + place_at current) (hex_byte a.self.place [])) listed)
+    ∙ line-stores current a.out.now a.at a.self.board a.self.decision a.self.list a.self.place
