@@ -3,12 +3,7 @@ use codec::value::{Value, value_at, value_count};
 
 // The cells from a place on become these values; what does not fit is dropped.
 pub fn change_cells(cells: &mut [Value], values: &[u8]) {
-    let count = value_count(values);
-    let mut i: usize = 0;
-    while i < count {
-        if i < cells.len() {
-            cells[i] = value_at(values, i);
-        }
-        i += 1;
+    for (i, cell) in cells.iter_mut().enumerate().take(value_count(values)) {
+        *cell = value_at(values, i);
     }
 }

@@ -3,10 +3,11 @@
 
 use beginning::beginning::begin;
 use closing::closing::close;
-use codec::value::{BLANK, Value, high_byte, low_byte};
+use codec::value::{BLANK, Value};
 use listing::listing::as_set;
 use plan::plan::Plan;
 use protocol::limits::PART;
+use refusals::refusal::Refusal;
 use schedule::rounds::Round;
 use settings::settings::Settings;
 use std::io;
@@ -14,14 +15,13 @@ use std::io::Write;
 
 // Cells of many values, from the largest down.
 fn scatter(cells: &mut [Value]) {
-    let mut i: usize = 0;
-    while i < cells.len() {
-        cells[i] = (65534 - i % 65535) as Value;
-        i += 1;
+    for (i, cell) in cells.iter_mut().enumerate() {
+        *cell = (65534 - i % 65535) as Value;
     }
 }
 
-fn main(rt: HostRuntime) -> io::Result<()> {
+// The decision and the list of the last closing.
+fn close_largest() -> Result<[u8; 3], Refusal> {
     // The one set that makes seven levels stands last of 32.
     let mut sets = [1u8; 32];
     sets[31] = 63;
@@ -31,23 +31,24 @@ fn main(rt: HostRuntime) -> io::Result<()> {
         default: 0,
         depth: 0,
     };
-    let planned = Plan::new(7, &sets[0..32], settings);
+    let plan = Plan::new(7, &sets, settings)?;
     let mut cells = [BLANK; PART];
-    let begun = begin(planned.plan, 6, &mut cells);
-    let mut r = begun.rec;
-    let round = Round(7);
-    r.round = round;
+    let mut r = begin(plan, 6, &mut cells)?;
+    r.round = Round(7);
     let mut out = [0u8; 3];
-    let mut i: usize = 0;
-    while i < 100 {
+    for _ in 0..100 {
         scatter(&mut cells);
-        let closed = close(r, &mut cells);
-        let decision = closed.rec.decision;
-        out[0] = high_byte(decision);
-        out[1] = low_byte(decision);
-        let list = closed.rec.list;
-        out[2] = as_set(list);
-        i += 1;
+        let rec = close(r, &mut cells)?.rec;
+        let [high, low] = rec.decision.to_be_bytes();
+        out = [high, low, as_set(rec.list)];
     }
-    rt.stdout().write_all(&out)
+    Ok(out)
+}
+
+fn main(rt: HostRuntime) -> io::Result<()> {
+    match close_largest() {
+        Ok(out) => rt.stdout().write_all(&out),
+        // Here no call is turned down; elsewhere its number would be written.
+        Err(why) => rt.stdout().write_all(&[why.number()]),
+    }
 }

@@ -1,4 +1,4 @@
-// What the calls answer, as numbers.
+// What the calls answer, and the bytes that tell it.
 #![tactic(auto)]
 
 pub mod said;

@@ -1,90 +1,56 @@
-// What a call answers: the number of the refusal, 0 for a call that is taken, and the bytes beside it.
-use codec::value::{high_byte, low_byte};
-use protocol::answers::{Closing, Dealt, Decision, Sent};
-use protocol::records::Record;
-use refusals::numbers::number_of;
-use refusals::refusal::{Refusal, Verdict};
+// What a call answers, and how it is told.
+ghost use Rattle.std.specs.Prelude.{◌≡◌};
+ghost use Rattle.saying.specs.Saying.{said, told};
 
-#[derive(Clone, Copy)]
-pub struct Said {
-    pub number: u8,
-    // How many bytes there are; the others are 0.
-    pub count: u8,
-    pub first: u8,
-    pub second: u8,
-    pub third: u8,
+use protocol::answers::Closing;
+use refusals::refusal::Refusal;
+
+// What a call that is taken hands back.
+#[derive(Clone, Copy, Debug, PartialEq, Eq)]
+pub enum Answer {
+    Nothing,
+    Byte(u8),
+    Pair(u8, u8),
 }
 
-// What a call says, and the record that it leaves.
-#[derive(Clone, Copy)]
-pub struct Told {
-    pub said: Said,
-    pub rec: Record,
-}
+impl From<[u8; 2]> for Answer {
+    ghost use Rattle.std.specs.Prelude.{get_or};
+    ghost use Rattle.saying.specs.declared.said.Answer.TheVariants.{Pair};
 
-// A call that is taken, with up to two bytes.
-pub fn taken(count: u8, first: u8, second: u8) -> Said {
-    Said {
-        number: 0,
-        count: count,
-        first: first,
-        second: second,
-        third: 0,
+    ghost from_gives = { λ bytes a. a ≡ Pair (get_or bytes 0 0) (get_or bytes 1 0) };
+
+    fn from(bytes: [u8; 2]) -> Answer {
+        let [first, second] = bytes;
+        Answer::Pair(first, second)
     }
 }
 
-// Number 5 has three places.
-fn refused(why: Refusal) -> Said {
-    match why {
-        Refusal::Covered(i, j, k) => Said {
-            number: 5,
-            count: 3,
-            first: i,
-            second: j,
-            third: k,
-        },
-        _ => Said {
-            number: number_of(why),
-            count: 0,
-            first: 0,
-            second: 0,
-            third: 0,
-        },
+impl From<Closing> for Answer {
+    ghost use Rattle.std.specs.Prelude.{Ok};
+    ghost use Rattle.protocol.specs.Answers.{open_says};
+    ghost use Rattle.saying.specs.Saying.{said};
+
+    ghost from_gives = { λ closing a. said (Ok a) ≡ open_says closing };
+
+    #[tactic(auto, unfolding(crate::specs::Saying::said, protocol::specs::Answers::open_says))]
+    fn from(closing: Closing) -> Answer {
+        match closing {
+            Closing::Next(run, round) => Answer::Pair(run.0, round.0),
+            Closing::Decided => Answer::Nothing,
+        }
     }
 }
 
-pub fn verdict_says(answer: Verdict) -> Said {
+// The number of the refusal, 0 for a call that is taken; how many bytes stand beside it; the bytes, 0 past them.
+#[tactic(auto, unfolding(crate::specs::Saying::said, crate::specs::Saying::told, refusals::specs::Outcome::refusal))]
+pub fn told_bytes(answer: Result<Answer, Refusal>) -> [u8; 5]
+    ensures { result ≡ told (said answer) }
+{
     match answer {
-        Verdict::Accepted => taken(0, 0, 0),
-        Verdict::Refused(why) => refused(why),
-    }
-}
-
-pub fn sent_says(answer: Sent) -> Said {
-    match answer {
-        Sent::Length(k) => taken(1, (k % 256) as u8, 0),
-        Sent::Refused(why) => refused(why),
-    }
-}
-
-pub fn closing_says(answer: Closing) -> Said {
-    match answer {
-        Closing::Next(run, round) => taken(2, run.0, round.0),
-        Closing::Decided => taken(0, 0, 0),
-        Closing::Refused(why) => refused(why),
-    }
-}
-
-pub fn decision_says(answer: Decision) -> Said {
-    match answer {
-        Decision::Value(v) => taken(2, high_byte(v), low_byte(v)),
-        Decision::Refused(why) => refused(why),
-    }
-}
-
-pub fn dealt_says(answer: Dealt) -> Said {
-    match answer {
-        Dealt::Frame(high, low) => taken(2, high, low),
-        Dealt::Refused(why) => refused(why),
+        Ok(Answer::Nothing) => [0; 5],
+        Ok(Answer::Byte(x)) => [0, 1, x, 0, 0],
+        Ok(Answer::Pair(x, y)) => [0, 2, x, y, 0],
+        Err(Refusal::Covered(i, j, k)) => [5, 3, i, j, k],
+        Err(why) => [why.number(), 0, 0, 0, 0],
     }
 }

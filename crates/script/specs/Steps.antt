@@ -1,6 +1,6 @@
 -- The sizes of a step keep to the cells, the output and the block that there are.
 use Rattle.std.specs.Prelude.{ℕ, ◌≤◌}
-use Rattle.script.specs.declared.steps.Sizes.{Sizes}
+use Rattle.script.specs.declared.sizes.Sizes.{Sizes}
 
 pub record Within (s : Sizes) (cells out bytes : ℕ) : Type 0 where
   pub lent : s.lent ≤ cells

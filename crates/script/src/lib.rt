@@ -1,4 +1,5 @@
 // Reading a script of calls, step by step.
 #![tactic(auto)]
 
+pub mod sizes;
 pub mod steps;

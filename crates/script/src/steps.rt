@@ -1,76 +1,86 @@
 // A script: blocks of one length, a call or a change each.
-ghost use Rattle.std.specs.Prelude.{◌≤◌};
-ghost use Rattle.script.specs.Steps.{Within};
+use codec::value::Value;
+use protocol::records::{Entry, Rule};
+use schedule::rounds::{Round, Run};
+use settings::settings::Settings;
 
 // The bytes of a block.
 pub const BLOCK: usize = 512;
 // Where its list of bytes starts: sets, a frame or cells.
 pub const START: usize = 16;
 
-// Which call or change a block says, and the bytes of its numbers.
-#[derive(Clone, Copy)]
-pub struct Step {
-    pub kind: u8,
-    pub a: u8,
-    pub b: u8,
-    pub c: u8,
-    pub d: u8,
-    pub e: u8,
-    pub f: u8,
-    pub g: u8,
+// What a block says, beside its sizes and its list.
+#[derive(Clone, Copy, Debug, PartialEq, Eq)]
+pub enum Step {
+    // A fresh start: a void record, cells of one value, output of one byte.
+    Start(Value, u8),
+    Call(Call),
+    Change(Change),
 }
 
-// What a block has of lengths.
-#[derive(Clone, Copy)]
-pub struct Sizes {
-    // The cells that are lent, or the first cell that is changed.
-    pub lent: usize,
-    // The cells that are told.
-    pub shown: usize,
-    // The output that is lent.
-    pub room: usize,
-    // How many bytes its list has.
-    pub count: usize,
+// A call of one board.
+#[derive(Clone, Copy, Debug, PartialEq, Eq)]
+pub enum Call {
+    // Planning for n boards, for the record.
+    Plan(u8, Settings),
+    // Beginning this board, on the record's plan.
+    Begin(u8),
+    // Handing in a frame of this sender.
+    Receive(u8),
+    Send,
+    // Closing by value, and over a lent record.
+    Close,
+    CloseLent,
+    Decide,
+    // The dealer's frame, on the record's plan.
+    Deal(Value),
 }
 
-fn wide(x: u8) -> usize
-    ensures { result ≤ 255 }
-{
-    x as usize
+// A change that no call makes.
+#[derive(Clone, Copy, Debug, PartialEq, Eq)]
+pub enum Change {
+    // A field of the record, by its number.
+    Field(u8, Value),
+    // The entry for a board.
+    Entry(u8, Entry),
+    Cells,
 }
 
-// Two bytes as one number, at most so much.
-fn number(high: u8, low: u8, most: usize) -> usize
-    ensures { result ≤ most }
-{
-    let x = wide(high) * 256 + wide(low);
-    if most < x {
-        return most;
-    }
-    x
-}
-
-pub fn step_of(block: [u8; BLOCK]) -> Step {
-    Step {
-        kind: block[0],
-        a: block[1],
-        b: block[2],
-        c: block[3],
-        d: block[4],
-        e: block[5],
-        f: block[6],
-        g: block[7],
+// An entry by its numbers: nothing for 0, rule G for 1, rule C for others.
+// A function and no `From`: an entry is not of this crate.
+fn entry_of(kind: u8, run: u8, round: u8, level: u8) -> Entry {
+    match kind {
+        0 => Entry::Nothing,
+        1 => Entry::Listed(Run(run), Round(round), Rule::G(level)),
+        _ => Entry::Listed(Run(run), Round(round), Rule::C(level)),
     }
 }
 
-// The sizes of a block, where there are so many cells and so much output.
-pub fn sizes_of(block: [u8; BLOCK], cells: usize, out: usize) -> Sizes
-    ensures { Within result cells out 496 }
-{
-    Sizes {
-        lent: number(block[8], block[9], cells),
-        shown: number(block[10], block[11], cells),
-        room: number(0, block[12], out),
-        count: number(block[13], block[14], BLOCK - START),
+impl From<[u8; BLOCK]> for Step {
+    // The first byte says which step, those after it are its numbers.
+    fn from(block: [u8; BLOCK]) -> Step {
+        let [kind, a, b, c, d, e, f, g, ..] = block;
+        match kind {
+            0 => Step::Start(u16::from_be_bytes([a, b]), c),
+            1 => {
+                let settings = Settings {
+                    dealer: b,
+                    span: u16::from_be_bytes([c, d]),
+                    default: u16::from_be_bytes([e, f]),
+                    depth: g,
+                };
+                Step::Call(Call::Plan(a, settings))
+            }
+            2 => Step::Call(Call::Begin(a)),
+            3 => Step::Call(Call::Receive(a)),
+            4 => Step::Call(Call::Send),
+            5 => Step::Call(Call::Close),
+            6 => Step::Call(Call::CloseLent),
+            7 => Step::Call(Call::Decide),
+            8 => Step::Call(Call::Deal(u16::from_be_bytes([a, b]))),
+            9 => Step::Change(Change::Field(a, u16::from_be_bytes([b, c]))),
+            10 => Step::Change(Change::Entry(a, entry_of(b, c, d, e))),
+            _ => Step::Change(Change::Cells),
+        }
     }
 }

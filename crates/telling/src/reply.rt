@@ -1,139 +1,88 @@
 // What is told after each step.
-ghost use Rattle.std.specs.Prelude.{◌≤◌, length};
+ghost use Rattle.std.specs.Prelude.{◌≡◌, ◌≤◌, ◌-◌, ◌++◌, take};
 
-use codec::value::{Value, high_byte, low_byte};
+use codec::value::Value;
 use listing::listing::as_set;
 use plan::plan::Plan;
-use protocol::records::{Entry, Record, Rule, Slot};
-use saying::said::Told;
+use protocol::records::{Entry, Record, Rule};
+use refusals::refusal::Refusal;
+use saying::said::{Answer, told_bytes};
 
-// Bytes put from a place on: the place after them. What does not fit is dropped.
-fn append(reply: &mut [u8], at: usize, bytes: &[u8]) -> usize
-    requires { at ≤ length reply.old }
-    ensures { result ≤ length reply.new }
-{
-    let mut end = at;
-    let mut i: usize = 0;
-    while i < bytes.len() {
-        if end < reply.len() {
-            reply[end] = bytes[i];
-            end += 1;
+// Bytes in a room of N. What does not fit is dropped.
+#[derive(Clone, Copy)]
+pub struct Reply<const N: usize> {
+    bytes: [u8; N],
+    end: usize,
+    ghost fits: { end ≤ N },
+}
+
+impl<const N: usize> Reply<N> {
+    pub fn new() -> Reply<N>
+        ensures { result.end ≡ 0 }
+    {
+        Reply {
+            bytes: [0; N],
+            end: 0,
         }
-        i += 1;
     }
-    end
-}
 
-// A plan.
-fn append_plan(reply: &mut [u8], at: usize, plan: Plan) -> usize
-    requires { at ≤ length reply.old }
-    ensures { result ≤ length reply.new }
-{
-    let numbers = [
-        plan.n,
-        plan.dealer,
-        high_byte(plan.span),
-        low_byte(plan.span),
-        high_byte(plan.default),
-        low_byte(plan.default),
-        plan.depth,
-        plan.count,
-    ];
-    let sets = plan.sets;
-    let end = append(reply, at, &numbers);
-    append(reply, end, &sets)
-}
+    pub fn as_slice(&self) -> &[u8]
+        ensures { result.now ≡ take self.now.end self.now.bytes }
+    {
+        let bytes = &self.bytes[..];
+        &bytes[..self.end]
+    }
 
-// Which rule, 1 or 2, and its level.
-fn rule_bytes(rule: Rule) -> [u8; 2] {
-    match rule {
-        Rule::G(level) => [1, level],
-        Rule::C(level) => [2, level],
+    fn append(&mut self, bytes: &[u8])
+        ensures { take self.new.end self.new.bytes ≡ take self.old.end self.old.bytes ++ take (N - self.old.end) bytes.now }
+    {
+        let count = bytes.len().min(N - self.end);
+        let room = &mut self.bytes[..];
+        room[self.end..self.end + count].copy_from_slice(&bytes[..count]);
+        self.end += count;
+    }
+
+    fn append_plan(&mut self, plan: &Plan) {
+        self.append(&[plan.n, plan.dealer]);
+        self.append(&plan.span.to_be_bytes());
+        self.append(&plan.default.to_be_bytes());
+        self.append(&[plan.depth, plan.count]);
+        self.append(&plan.sets);
+    }
+
+    fn append_record(&mut self, r: &Record) {
+        self.append_plan(&r.plan);
+        for slot in &r.list {
+            self.append(&entry_bytes(slot.entry));
+        }
+        self.append(&[r.board, r.run.0, r.round.0]);
+        self.append(&[as_set(r.list), r.marks, u8::from(r.decided)]);
+        self.append(&r.decision.to_be_bytes());
+    }
+
+    // The answer, the record, the output and the cells.
+    pub fn append_told(
+        &mut self,
+        answer: Result<Answer, Refusal>,
+        r: &Record,
+        out: &[u8],
+        cells: &[Value],
+    ) {
+        self.append(&told_bytes(answer));
+        self.append_record(r);
+        self.append(out);
+        for cell in cells {
+            self.append(&cell.to_be_bytes());
+        }
     }
 }
 
-// Kind, run, round, level.
+// Kind, run, round, level: kind 1 is rule G, kind 2 rule C.
+// A function and no `From`: neither an entry nor an array is of this crate.
 fn entry_bytes(entry: Entry) -> [u8; 4] {
     match entry {
-        Entry::Nothing => [0, 0, 0, 0],
-        Entry::Listed(run, round, rule) => {
-            let by = rule_bytes(rule);
-            [by[0], run.0, round.0, by[1]]
-        }
+        Entry::Nothing => [0; 4],
+        Entry::Listed(run, round, Rule::G(level)) => [1, run.0, round.0, level],
+        Entry::Listed(run, round, Rule::C(level)) => [2, run.0, round.0, level],
     }
-}
-
-// The entries of a list.
-fn append_list(reply: &mut [u8], at: usize, list: [Slot; 7]) -> usize
-    requires { at ≤ length reply.old }
-    ensures { result ≤ length reply.new }
-{
-    let mut end = at;
-    let mut i: usize = 0;
-    while i < 7 {
-        let slot = list[i];
-        let entry = slot.entry;
-        let bytes = entry_bytes(entry);
-        end = append(reply, end, &bytes);
-        i += 1;
-    }
-    end
-}
-
-fn truth(b: bool) -> u8 {
-    if b {
-        return 1;
-    }
-    0
-}
-
-// A record.
-fn append_record(reply: &mut [u8], at: usize, r: Record) -> usize
-    requires { at ≤ length reply.old }
-    ensures { result ≤ length reply.new }
-{
-    let list = r.list;
-    let set = as_set(list);
-    let decided = truth(r.decided);
-    let numbers = [
-        r.board,
-        r.run.0,
-        r.round.0,
-        set,
-        r.marks,
-        decided,
-        high_byte(r.decision),
-        low_byte(r.decision),
-    ];
-    let planned = append_plan(reply, at, r.plan);
-    let listed = append_list(reply, planned, list);
-    append(reply, listed, &numbers)
-}
-
-// Cells, two bytes each, the high one first.
-fn append_cells(reply: &mut [u8], at: usize, cells: &[Value]) -> usize
-    requires { at ≤ length reply.old }
-    ensures { result ≤ length reply.new }
-{
-    let mut end = at;
-    let mut i: usize = 0;
-    while i < cells.len() {
-        let cell = cells[i];
-        let bytes = [high_byte(cell), low_byte(cell)];
-        end = append(reply, end, &bytes);
-        i += 1;
-    }
-    end
-}
-
-// The answer, the record, the output and the cells.
-pub fn append_told(reply: &mut [u8], told: Told, out: &[u8], cells: &[Value]) -> usize
-    ensures { result ≤ length reply.new }
-{
-    let said = told.said;
-    let bytes = [said.number, said.count, said.first, said.second, said.third];
-    let answered = append(reply, 0, &bytes);
-    let recorded = append_record(reply, answered, told.rec);
-    let written = append(reply, recorded, out);
-    append_cells(reply, written, cells)
 }
