@@ -46,7 +46,7 @@ pub enum Change {
     Cells,
 }
 
-// An entry by its numbers: nothing for 0, rule G for 1, rule C for others.
+// An entry by its numbers, the form of a script (tests/second/src/script.rs): nothing for 0, rule G for 1, rule C for others.
 // A function and no `From`: an entry is not of this crate.
 fn entry_of(kind: u8, run: u8, round: u8, level: u8) -> Entry {
     match kind {

@@ -67,7 +67,9 @@ impl<const N: usize> Reply<N> {
         r: &Record,
         out: &[u8],
         cells: &[Value],
-    ) {
+    )
+        ensures { self.new.end ≤ N }
+    {
         self.append(&told_bytes(answer));
         self.append_record(r);
         self.append(out);
@@ -77,7 +79,7 @@ impl<const N: usize> Reply<N> {
     }
 }
 
-// Kind, run, round, level: kind 1 is rule G, kind 2 rule C.
+// Kind, run, round, level: kind 1 is rule G, kind 2 rule C, numbers that tests/second reads.
 // A function and no `From`: neither an entry nor an array is of this crate.
 fn entry_bytes(entry: Entry) -> [u8; 4] {
     match entry {
