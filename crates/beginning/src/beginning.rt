@@ -32,7 +32,7 @@ fn fresh(plan: Plan, board: u8) -> Record
     }
 }
 
-// The record beside a refused beginning, and of a board that has not begun.
+// The record of a board that has not begun; the definitions have it beside a refused beginning.
 #[tactic(auto, unfolding(protocol::specs::Calls::void_record))]
 pub fn void() -> Record
     ensures { result ≡ void_record }

@@ -1,2 +1,3 @@
 pub mod Accepted
+pub mod Injective
 pub mod Own

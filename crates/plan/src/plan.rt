@@ -61,7 +61,7 @@ impl Plan {
         judge(self.n, &self.sets[..count], settings)
     }
 
-    // The plan beside a refusal: every call refuses it.
+    // A plan that every call refuses; the definitions have it beside a refusal.
     #[tactic(auto, unfolding(crate::specs::Calls::void_plan))]
     pub fn void() -> Plan
         ensures { result ≡ void_plan }
