@@ -70,12 +70,10 @@ fn act(block: [u8; BLOCK], state: &mut State) -> Result<Answer, Refusal> {
 }
 
 // One step, and what is told of it.
-fn take_step(block: [u8; BLOCK], state: &mut State) -> Reply<REPLY> {
+fn take_step(block: [u8; BLOCK], state: &mut State, reply: &mut Reply<REPLY>) {
     let said = act(block, state);
     let sizes = sizes_of(block, CELLS, OUT);
-    let mut reply = Reply::new();
     reply.append_told(said, &state.rec, &state.out, &state.cells[..sizes.shown]);
-    reply
 }
 
 fn main(rt: HostRuntime) {
@@ -86,7 +84,8 @@ fn main(rt: HostRuntime) {
         if rt.stdin().read_exact(&mut block).is_err() {
             return;
         }
-        let reply = take_step(block, &mut state);
+        let mut reply = Reply::new();
+        take_step(block, &mut state, &mut reply);
         // What was told could not be written.
         if rt.stdout().write_all(reply.as_slice()).is_err() {
             return;

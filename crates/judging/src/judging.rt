@@ -60,12 +60,14 @@ fn has_good_fields(r: Record, last: Run, end: Round) -> bool
 fn is_good(r: Record) -> bool
     ensures { result ≡ good_record r }
 {
-    let last = runs(r.plan);
-    let end = rounds(r.plan);
     r.plan.judge().is_ok()
         && judge_board(r.plan, r.board).is_ok()
-        && is_round(last, end, r.run, r.round)
-        && has_good_fields(r, last, end)
+        && {
+            // Only of a plan that passes: they go over all of its sets.
+            let last = runs(r.plan);
+            let end = rounds(r.plan);
+            is_round(last, end, r.run, r.round) && has_good_fields(r, last, end)
+        }
 }
 
 // The record: 12.

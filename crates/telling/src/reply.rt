@@ -42,6 +42,19 @@ impl<const N: usize> Reply<N> {
         self.end += count;
     }
 
+    // Two bytes, as `append` puts them. Where both fit the length of the copy is known, so that it costs no call.
+    fn append_pair(&mut self, pair: [u8; 2])
+        ensures { take self.new.end self.new.bytes ≡ take self.old.end self.old.bytes ++ take (N - self.old.end) pair }
+    {
+        if N - self.end < 2 {
+            self.append(&pair);
+            return;
+        }
+        let room = &mut self.bytes[..];
+        room[self.end..self.end + 2].copy_from_slice(&pair);
+        self.end += 2;
+    }
+
     fn append_plan(&mut self, plan: &Plan) {
         self.append(&[plan.n, plan.dealer]);
         self.append(&plan.span.to_be_bytes());
@@ -74,7 +87,7 @@ impl<const N: usize> Reply<N> {
         self.append_record(r);
         self.append(out);
         for cell in cells {
-            self.append(&cell.to_be_bytes());
+            self.append_pair(cell.to_be_bytes());
         }
     }
 }

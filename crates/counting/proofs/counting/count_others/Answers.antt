@@ -1,20 +1,30 @@
-use Rattle.std.proofs.Common.{ℕ, ◌≡◌, ◌∙◌, not, eqb, arith, rules, tests, length, get_or, List}
-use Rattle.std.specs.List.{filter}
-use Rattle.std.proofs.lemmas.Iterator.{YieldsList-from_slice}
-use Rattle.std.proofs.lemmas.Iterator.Consumers.{YieldsList-from_filter, count_from_yields_List}
-use Rattle.std.proofs.lemmas.List.Sums.{length-filter}
-use Rattle.sets.specs.Bounded.{Bounded}
+-- `count_others` meets its contract: one cell more each turn.
+use Rattle.std.proofs.Common.{ℕ, ◌≡◌, ◌∙◌, sym, ap, Bool, not, eqb, arith, length, get_or}
+use native.Mathlib.Numerals.{add-one}
+use borrow.Author.Tests.{eq-eqb, ne_eqb}
 use Rattle.sets.specs.Search.{count}
-use Rattle.sets.proofs.Count.{count-le}
-use Rattle.sets.proofs.Bridges.{count_by-is}
+use Rattle.sets.proofs.Count.{count-in, count-out, count-zero}
+use Rattle.sets.proofs.Tests.{true-not}
 use Rattle.counting.proofs.counting.count_others.Goals as goal
+use Rattle.counting.proofs.counting.count_others.Goals.{else-cell-x, then-cell-x}
 
-counted : (cells : List ℕ) (x r : ℕ) → r ≡ length (filter (λ y. not (eqb y x)) cells) → Bounded r (count (λ i. not (eqb (get_or cells i 0) x)) (length cells)) (length cells)
-counted cells x r e =
-    let value : r ≡ count (λ i. not (eqb (get_or cells i 0) x)) (length cells) = e ∙ length-filter (λ y. not (eqb y x)) cells ∙ count_by-is (λ y. not (eqb y x)) 0 cells in
-    record { value = value; bound = omega (arith, count-le (λ i. not (eqb (get_or cells i 0) x)) (length cells)) }
+pub loop-cell-init : goal.loop-cell-init
+loop-cell-init c =
+    let a = c.args in (sym (count-zero (λ k. not (eqb (get_or a.cells.now k 0) a.x))), omega arith)
+
+pub loop-cell-preserved : goal.loop-cell-preserved
+loop-cell-preserved c =
+    let a = c.args in
+    let l = c.loop-cell in
+    let f : ℕ → Bool = λ k. not (eqb (get_or a.cells.now k 0) a.x) in
+    elim c.if-cell-x.branch [
+      | then-cell-x w ↦ (rw add-one (omega (arith, w.others-is, l.invariant.0, count-in f l.cell-index (true-not _ (ne_eqb _ _ w.if-cell-x.true)))), omega (arith, w.others-is))
+      | else-cell-x w ↦ (rw add-one (omega (arith, w.others-is, l.invariant.0, count-out f l.cell-index (ap not (eq-eqb _ _ w.if-cell-x.false)))), omega (arith, w.others-is))
+    ]
 
 pub returns : goal.returns
 returns c =
     let a = c.args in
-    counted a.cells.now a.x _ (count_from_yields_List c.filter.result _ c.count.ensures.ran (YieldsList-from_filter _ _ (YieldsList-from_slice a.cells.now cc) c.filter.ensures.closure (λ x b q k. search (rules, tests))))
+    let l = c.loop-cell in
+    let z : l.cell-index ≡ length a.cells.now = omega arith in
+    record { value = l.invariant.0 ∙ ap (count (λ k. not (eqb (get_or a.cells.now k 0) a.x))) z; bound = omega arith }
