@@ -3,6 +3,7 @@ use codec::value::Value;
 use plan::plan::Plan;
 use protocol::records::{Entry, Record, Slot};
 use schedule::rounds::{Round, Run};
+pub use script::steps::entry_of;
 
 // Fields are numbers here and below, and no enums: the form of a script, which tests/second/src/script.rs writes.
 // Another number in a plan: 0 n, 1 dealer, 2 span, 3 default, 4 depth, 5 count, from 32 on a slot of its sets.

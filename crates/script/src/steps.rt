@@ -48,7 +48,7 @@ pub enum Change {
 
 // An entry by its numbers, the form of a script (tests/second/src/script.rs): nothing for 0, rule G for 1, rule C for others.
 // A function and no `From`: an entry is not of this crate.
-fn entry_of(kind: u8, run: u8, round: u8, level: u8) -> Entry {
+pub fn entry_of(kind: u8, run: u8, round: u8, level: u8) -> Entry {
     match kind {
         0 => Entry::Nothing,
         1 => Entry::Listed(Run(run), Round(round), Rule::G(level)),
